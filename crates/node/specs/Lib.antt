@@ -1,0 +1,4 @@
+pub mod Nodes
+pub mod Links
+pub mod Meanings
+pub mod Outcomes
