@@ -35,7 +35,8 @@ module _ {N : ℕ} where
 pub filled : (s b : List ℕ) (N i : ℕ) → length s ≤ N → i ≡ length s → b ≡ over i s (replicate N 0) → (length b ≡ N) × (drop (length s) b ≡ replicate (N - length s) 0) × (take (length s) b ≡ s)
 filled s b N i h q p =
     let t : take i s ≡ s = take-all i s (omega arith) in
-    let e : b ≡ s ++ replicate (N - length s) 0 = p ∙ (λ j. t j ++ drop-replicate i N 0 j) ∙ ap (λ n. s ++ replicate (N - n) 0) q in
-    (ap length e ∙ length-append s (replicate (N - length s) 0) ∙ omega (arith, length-replicate {A = ℕ} (N - length s) 0),
-    ap (drop (length s)) e ∙ drop-at s _ (length s) refl,
-    ap (take (length s)) e ∙ take-at s _ (length s) refl)
+    let e : b ≡ s ++ replicate (N - length s) 0 = p ∙ (λ j. t j ++ drop-replicate i N 0 j) ∙ ap (λ n. s ++ replicate (N - n) 0) q in (
+      ap length e ∙ length-append s (replicate (N - length s) 0) ∙ omega (arith, length-replicate {A = ℕ} (N - length s) 0),
+      ap (drop (length s)) e ∙ drop-at s _ (length s) refl,
+      ap (take (length s)) e ∙ take-at s _ (length s) refl,
+    )

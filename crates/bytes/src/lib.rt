@@ -2,5 +2,6 @@
 // each call says which list it leaves; none asks for memory.
 pub mod ivec;
 pub mod table;
+
 pub use ivec::IVec;
 pub use table::Table;

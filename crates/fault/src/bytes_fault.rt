@@ -47,12 +47,24 @@ pub impl fmt::Display for BytesFault as BytesFaultDisplay {
     fn fmt<W: fmt::Write>(&self, f: &mut fmt::Formatter<W>) -> fmt::Result {
         match self {
             BytesFault::TooLong => f.write_str("refused 4: the string is too long: shorten it"),
-            BytesFault::Unlawful => f.write_str("refused 5: the bytes break the rules of their kind: put keys or names in rising order and keep prefix_len within hi"),
-            BytesFault::EndsEarly => f.write_str("refused 7: the bytes end early: give the whole payload"),
-            BytesFault::BadNumber => f.write_str("refused 8: a number is not in its shortest form or is too big: write it anew"),
-            BytesFault::OutOfRange => f.write_str("refused 9: a tag, flag, count or length is outside its values: compare it with the format"),
-            BytesFault::LeftOver => f.write_str("refused 10: bytes are left over: give one payload alone"),
-            BytesFault::ScratchTooSmall => f.write_str("refused 12: the scratch is too small: lend 1152 bytes or more"),
+            BytesFault::Unlawful => f.write_str(
+                "refused 5: the bytes break the rules of their kind: put keys or names in rising order and keep prefix_len within hi",
+            ),
+            BytesFault::EndsEarly => f.write_str(
+                "refused 7: the bytes end early: give the whole payload",
+            ),
+            BytesFault::BadNumber => f.write_str(
+                "refused 8: a number is not in its shortest form or is too big: write it anew",
+            ),
+            BytesFault::OutOfRange => f.write_str(
+                "refused 9: a tag, flag, count or length is outside its values: compare it with the format",
+            ),
+            BytesFault::LeftOver => f.write_str(
+                "refused 10: bytes are left over: give one payload alone",
+            ),
+            BytesFault::ScratchTooSmall => f.write_str(
+                "refused 12: the scratch is too small: lend 1152 bytes or more",
+            ),
         }
     }
 }

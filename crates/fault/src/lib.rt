@@ -5,6 +5,7 @@ pub mod disk_pointer;
 pub mod node_fault;
 pub mod report;
 pub mod value_fault;
+
 pub use bytes_fault::BytesFault;
 pub use disk_pointer::DiskPtr;
 pub use node_fault::NodeFault;

@@ -48,14 +48,28 @@ impl NodeFault {
 pub impl fmt::Display for NodeFault as NodeFaultDisplay {
     fn fmt<W: fmt::Write>(&self, f: &mut fmt::Formatter<W>) -> fmt::Result {
         match self {
-            NodeFault::Unlawful => f.write_str("refused 5: the parts make no lawful node, Meta or separator: put keys in rising order and keep prefix_len within hi and separator"),
-            NodeFault::Merging => f.write_str("refused 22: the node is being merged away: link to its left neighbour"),
-            NodeFault::NotBelowHi => f.write_str("refused 23: the key is not below the node's hi: go on to next"),
-            NodeFault::WrongKind => f.write_str("refused 24: the link is for the other kind of node: a leaf takes Set and Del, an index Confirm and splits"),
+            NodeFault::Unlawful => f.write_str(
+                "refused 5: the parts make no lawful node, Meta or separator: put keys in rising order and keep prefix_len within hi and separator",
+            ),
+            NodeFault::Merging => f.write_str(
+                "refused 22: the node is being merged away: link to its left neighbour",
+            ),
+            NodeFault::NotBelowHi => f.write_str(
+                "refused 23: the key is not below the node's hi: go on to next",
+            ),
+            NodeFault::WrongKind => f.write_str(
+                "refused 24: the link is for the other kind of node: a leaf takes Set and Del, an index Confirm and splits",
+            ),
             NodeFault::Full => f.write_str("refused 25: the node has sixteen rows: split it first"),
-            NodeFault::BadChild => f.write_str("refused 26: page 0, a child already merging, or none to confirm: finish or begin a merge first"),
-            NodeFault::NoPointer => f.write_str("refused 27: no row points to the merging child: replace the node"),
-            NodeFault::TooManyRoots => f.write_str("refused 38: there are eight roots: remove one first"),
+            NodeFault::BadChild => f.write_str(
+                "refused 26: page 0, a child already merging, or none to confirm: finish or begin a merge first",
+            ),
+            NodeFault::NoPointer => f.write_str(
+                "refused 27: no row points to the merging child: replace the node",
+            ),
+            NodeFault::TooManyRoots => f.write_str(
+                "refused 38: there are eight roots: remove one first",
+            ),
         }
     }
 }

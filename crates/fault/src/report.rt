@@ -1,8 +1,8 @@
 use crate::DiskPtr;
 use crate::PageId;
-use std::fmt;
 use crate::disk_pointer::DiskPtrDebug;
 use crate::disk_pointer::DiskPtrPartialEq;
+use std::fmt;
 
 // The part of the library that refused.
 #[derive(Clone, Copy, PartialEq, Eq, Debug)]

@@ -4,13 +4,13 @@ ghost use Rattle.fault.specs.declared.value_fault.ValueFault.the-variants.{Byt
 use crate::BytesFault;
 use crate::NodeFault;
 use crate::Report;
-use crate::bytes_fault::BytesFaultDisplay;
-use crate::node_fault::NodeFaultDisplay;
-use std::fmt;
 use crate::bytes_fault::BytesFaultDebug;
+use crate::bytes_fault::BytesFaultDisplay;
 use crate::bytes_fault::BytesFaultPartialEq;
 use crate::node_fault::NodeFaultDebug;
+use crate::node_fault::NodeFaultDisplay;
 use crate::node_fault::NodeFaultPartialEq;
+use std::fmt;
 
 // Why a payload could not be read, or what was read could not be applied: the fault below, held whole.
 #[derive(Clone, Copy, PartialEq, Eq, Debug)]

@@ -98,9 +98,10 @@ module _ (d : Data) (t : Table IndexRow 16) (is : d ≡ Index t) where
         let s = subst (λ (l : List IndexRow). Searched at l (Ok i)) same pointed in
         let f = found at (rowsOf t) i s in
         let made : rowsOf t′ ≡ without at (rowsOf t) = w ∙ cond-true b (removed (rowsOf t) i) (rowsOf t) (fits ∙ lt-ltb i (length (rowsOf t)) (s .0)) ∙ sym (without-found at f) in
-        let some : isSome (lookup (pointing p) (map indexRow (rowsOf t))) ≡ true = ap isSome (sym (mapped-lookup indexRow (pointing p) (rowsOf t))) ∙ some-mapped indexRow (lookup at (rowsOf t)) (found-some at f) in
-        (ap (λ x. confirmRows p (dataOf x)) is ∙ ap (λ y. cond y (Ok (index (without (pointing p) (map indexRow (rowsOf t))))) (Err NoPointer)) some ∙ ap (λ l. Ok (index l)) (sym (ap (map indexRow) made ∙ map-without indexRow (pointing p) (rowsOf t))),
-        λ up. sym (map-rising indexRow byKey (rowsOf t′)) ∙ ap (rising (rowOrder indexRow)) made ∙ without-rising byBytes (λ r. r .key) bytes-lawful at (rowsOf t) (rises indexRow (rowsOf t) (subst (λ (x : Data). orderedRows (dataOf x) ≡ true) is up)))
+        let some : isSome (lookup (pointing p) (map indexRow (rowsOf t))) ≡ true = ap isSome (sym (mapped-lookup indexRow (pointing p) (rowsOf t))) ∙ some-mapped indexRow (lookup at (rowsOf t)) (found-some at f) in (
+          ap (λ x. confirmRows p (dataOf x)) is ∙ ap (λ y. cond y (Ok (index (without (pointing p) (map indexRow (rowsOf t))))) (Err NoPointer)) some ∙ ap (λ l. Ok (index l)) (sym (ap (map indexRow) made ∙ map-without indexRow (pointing p) (rowsOf t))),
+          λ up. sym (map-rising indexRow byKey (rowsOf t′)) ∙ ap (rising (rowOrder indexRow)) made ∙ without-rising byBytes (λ r. r .key) bytes-lawful at (rowsOf t) (rises indexRow (rowsOf t) (subst (λ (x : Data). orderedRows (dataOf x) ≡ true) is up)),
+        )
 
     pub confirm-refused : Pointed p rows None → confirmRows p (dataOf d) ≡ Err NoPointer
     confirm-refused pointed =

@@ -57,7 +57,7 @@ confirmRows p (index rows) = cond (isSome (lookup (pointing p) rows)) (Ok (index
 abbrev pub splitRows : Str → ℕ → Rows → Changed (Bool × Rows)
 splitRows k to (leaf rows) = Err WrongKind
 splitRows k to (index rows) =
-  cond (isSome (lookup (sought k) rows)) (Ok (false, index rows)) (cond (ltb (length rows) 16) (Ok (true, index (put (sought k) (k, to) rows))) (Err Full))
+    cond (isSome (lookup (sought k) rows)) (Ok (false, index rows)) (cond (ltb (length rows) 16) (Ok (true, index (put (sought k) (k, to) rows))) (Err Full))
 
 -- ---- nodes
 
@@ -88,7 +88,7 @@ applied s c = cond (c .merging) (Err Merging) (taken s c)
 -- what splitting a child at a separator gives, and whether the separator is new
 abbrev pub parentSplit : Str → ℕ → Contents → Changed (Bool × Contents)
 parentSplit at to c =
-  cond (ltb (length at) (c .prefixLen)) (Err Unlawful) (andThen (splitRows (drop (c .prefixLen) at) to (c .rows)) (λ done. Ok (done .0, withRows c (done .1))))
+    cond (ltb (length at) (c .prefixLen)) (Err Unlawful) (andThen (splitRows (drop (c .prefixLen) at) to (c .rows)) (λ done. Ok (done .0, withRows c (done .1))))
 
 -- a page: a base, and the links since in order, each applied to what those before it left
 abbrev pub folded : Contents → List Step → Changed Contents

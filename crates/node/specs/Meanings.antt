@@ -50,7 +50,7 @@ partsOf p = record {
   merging = p .merging;
   lo = bytesOf (p .lo);
   hi = bytesOf (p .hi);
-  rows = dataOf (p .«data»)
+  rows = dataOf (p .«data»);
 }
 
 abbrev pub linkOf : Link → Step

@@ -9,6 +9,7 @@ pub mod node;
 pub mod parts;
 pub mod roots;
 pub mod rows;
+
 pub use data::Data;
 pub use link::Link;
 pub use meta::Meta;

@@ -3,8 +3,8 @@ ghost use mathlib.Core.Bool.{true};
 ghost use Rattle.bytes.specs.Rows.{rowsOf};
 ghost use Rattle.node.specs.Nodes.{ordered};
 ghost use Rattle.node.specs.Meanings.{rootsOf};
-use bytes::Table;
 use crate::rows::Root;
+use bytes::Table;
 
 // The roots, in rising order of their names.
 #[derive(Copy)]

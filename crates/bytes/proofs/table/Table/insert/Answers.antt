@@ -16,7 +16,7 @@ returns g c =
     let n = length-inserted (t .rows) (c .args .i) (c .args .x) (omega arith) in
     record {
       fits = (λ _. (omega arith, omega arith), λ _. refl);
-      rows = ap (take _) (c .open .ensures .after) ∙ take-over (inserted (t .rows) (c .args .i) (c .args .x)) (t .rows) (t .len + 1) (omega arith) ∙ ap (λ n. take n (inserted (t .rows) (c .args .i) (c .args .x))) (add-one (t .len)) ∙ take-inserted (t .rows) (t .len) (c .args .i) (c .args .x) (c .if-i-self .left) (omega arith)
+      rows = ap (take _) (c .open .ensures .after) ∙ take-over (inserted (t .rows) (c .args .i) (c .args .x)) (t .rows) (t .len + 1) (omega arith) ∙ ap (λ n. take n (inserted (t .rows) (c .args .i) (c .args .x))) (add-one (t .len)) ∙ take-inserted (t .rows) (t .len) (c .args .i) (c .args .x) (c .if-i-self .left) (omega arith);
     }
 
 pub ghost-self : need.ghost-self

@@ -9,5 +9,5 @@ returns g c =
     let t = c .args .self .now in
     record {
       fits = sym (lt-ltb _ _ (simp (length-take-le (t .len) (t .rows) (omega arith)) (c .if-self .left)));
-      rows = take-more-set (t .rows) (t .len) (c .args .x) (omega arith)
+      rows = take-more-set (t .rows) (t .len) (c .args .x) (omega arith);
     }

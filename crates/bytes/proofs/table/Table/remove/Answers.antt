@@ -17,7 +17,7 @@ returns g c =
     let k : suc (t .len - 1) ≡ t .len = omega arith in
     record {
       fits = sym (lt-ltb _ _ (omega arith));
-      rows = ap (take _) (c .close .ensures .after) ∙ take-over (removed (t .rows) (c .args .i)) (t .rows) (t .len - 1) (omega arith) ∙ take-removed (t .rows) (t .len - 1) (c .args .i) (omega arith) (omega arith) ∙ ap (λ n. removed (take n (t .rows)) (c .args .i)) k
+      rows = ap (take _) (c .close .ensures .after) ∙ take-over (removed (t .rows) (c .args .i)) (t .rows) (t .len - 1) (omega arith) ∙ take-removed (t .rows) (t .len - 1) (c .args .i) (omega arith) (omega arith) ∙ ap (λ n. removed (take n (t .rows)) (c .args .i)) k;
     }
 
 pub ghost-self : need.ghost-self

@@ -10,7 +10,7 @@ returns g c =
     let t = c .args .self .now in
     record {
       fits = sym (lt-ltb _ _ (simp (length-take-le (t .len) (t .rows) (omega arith)) (c .if-i-self .left)));
-      rows = take-set-lt (t .len) (t .rows) (c .args .i) (c .args .x) (c .if-i-self .left)
+      rows = take-set-lt (t .len) (t .rows) (c .args .i) (c .args .x) (c .if-i-self .left);
     }
 
 pub returns-then-i-self : need.returns-then-i-self

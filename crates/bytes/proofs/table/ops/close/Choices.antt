@@ -7,4 +7,4 @@ use Rattle.bytes.proofs.table.ops.close.Given as given
 
 abbrev pub Inv-loop-k : given.InvT-loop-k
 Inv-loop-k g l = let e = l .entry .all in
-  (length (l .all) ≡ length e) × (l .k ≤ l .len - 1) × (l .all ≡ over (l .k) (removed e (l .i)) e)
+    (length (l .all) ≡ length e) × (l .k ≤ l .len - 1) × (l .all ≡ over (l .k) (removed e (l .i)) e)

@@ -1,0 +1,5 @@
+pub mod Parsing
+pub mod Numbers
+pub mod Formats
+pub mod Fitting
+pub mod Calls
