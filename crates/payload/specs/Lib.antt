@@ -1,0 +1,5 @@
+pub mod Spelling
+pub mod Faults
+pub mod Asked
+pub mod Holding
+pub mod Telling
