@@ -3,14 +3,14 @@ use Rattle.std.proofs.Common.{◌≡◌, ℕ, zero, suc, ◌+◌, ◌-◌, ◌<�
 use Rattle.std.proofs.lemmas.Bool.{cases_lt, not_true}
 use Rattle.std.proofs.lemmas.List.{get_or_read, drop_more, length-append, take-append-le, drop-append-le, drop_at, take_at, take_all, length-drop}
 use Rattle.fault.specs.declared.disk_pointer.DiskPtr.{DiskPtr}
-use Rattle.log.specs.Meaning.{State, pending, live, cancelled, met, Message, is_pending, is_live, both, either, is_at, same_ptr, or_else, becomes, sweep, settle, mark, named, dead, any_pending, pending_at, live_at, Sheds, none, kept, shed, Below}
-use Rattle.log.proofs.Laws.{both_no, eqb_refl, either_left, either_right}
-use Rattle.log.specs.declared.messages.Status.{Status}
-use Rattle.log.specs.declared.messages.Status.TheVariants.{Pending, Live, Dead, Cancelled}
-use Rattle.log.specs.declared.messages.Event.{Event}
-use Rattle.log.specs.declared.messages.Event.TheVariants.{Complete, Abort, Mark}
+use Rattle.logs.specs.Meaning.{State, pending, live, cancelled, met, Message, is_pending, is_live, both, either, is_at, same_ptr, or_else, becomes, sweep, settle, mark, named, dead, any_pending, pending_at, live_at, Sheds, none, kept, shed, Below}
+use Rattle.logs.proofs.Laws.{both_no, eqb_refl, either_left, either_right}
+use Rattle.logs.specs.declared.messages.Status.{Status}
+use Rattle.logs.specs.declared.messages.Status.TheVariants.{Pending, Live, Dead, Cancelled}
+use Rattle.logs.specs.declared.messages.Event.{Event}
+use Rattle.logs.specs.declared.messages.Event.TheVariants.{Complete, Abort, Mark}
 use Rattle.book.specs.declared.head.Head.{Head}
-use Rattle.log.specs.Meaning.{state_of}
+use Rattle.logs.specs.Meaning.{state_of}
 use Rattle.book.specs.Heads.{calm, message, messages, with_status, bare, Ranked, ranked, At, lives, live_head}
 use Rattle.book.specs.Books.{LiveIndex, PendingIndex}
 

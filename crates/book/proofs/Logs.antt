@@ -1,20 +1,20 @@
 -- From a book's calls to a log's. Assumes nothing.
 use Rattle.std.proofs.Common.{◌≡◌, ℕ, zero, suc, ◌+◌, ◌-◌, ◌^◌, ◌<◌, ◌≤◌, Bool, true, false, not, eqb, ltb, leb, List, [], ◌∷◌, ◌++◌, length, get_or, take, drop, set, is_some, Some, None, Ok, Err, vec_items, vec_len, vec_capacity, Option, Result, sym, refl, ap, ◌∙◌, subst, arith, ltb-true, leb-true}
 use Rattle.std.proofs.lemmas.List.{length-append, take-append-le, drop-append-le, drop_at, take_at, take_all, length-drop, length_push}
-use Rattle.log.specs.declared.messages.Kind.{Kind}
+use Rattle.logs.specs.declared.messages.Kind.{Kind}
 use Rattle.fault.specs.declared.disk_pointer.DiskPtr.{DiskPtr}
 use Rattle.fault.specs.declared.disk_pointer.DiskPtr.TheVariants.{Inline, Blob}
-use Rattle.log.specs.declared.messages.CacheInfo.{CacheInfo}
-use Rattle.log.specs.declared.reservation.Reservation.{Reservation}
-use Rattle.log.specs.declared.reservation.Returned.{Returned}
-use Rattle.log.specs.Meaning.{Meaning, State, Message, pending, is_pending, is_live, is_blob, both, either, is_at, same_ptr, live_at, any_pending, Sheds}
-use Rattle.log.specs.Clauses.{fresh, Reserved, Settled, OnSettle, Marked, Durable, blob_there}
-use Rattle.log.proofs.Laws.{both_no}
-use Rattle.log.specs.declared.messages.Status.{Status}
-use Rattle.log.specs.declared.messages.Event.{Event}
+use Rattle.logs.specs.declared.messages.CacheInfo.{CacheInfo}
+use Rattle.logs.specs.declared.reservation.Reservation.{Reservation}
+use Rattle.logs.specs.declared.reservation.Returned.{Returned}
+use Rattle.logs.specs.Meaning.{Meaning, State, Message, pending, is_pending, is_live, is_blob, both, either, is_at, same_ptr, live_at, any_pending, Sheds}
+use Rattle.logs.specs.Clauses.{fresh, Reserved, Settled, OnSettle, Marked, Durable, blob_there}
+use Rattle.logs.proofs.Laws.{both_no}
+use Rattle.logs.specs.declared.messages.Status.{Status}
+use Rattle.logs.specs.declared.messages.Event.{Event}
 use Rattle.book.specs.declared.head.Head.{Head}
 use Rattle.book.specs.declared.book.Book.{Book}
-use Rattle.log.specs.Meaning.{state_of}
+use Rattle.logs.specs.Meaning.{state_of}
 use Rattle.book.specs.Heads.{message, messages, with_status, bare, Ranked, ranked, inlined, payload_of}
 use Rattle.book.specs.Books.{heads_of, mem_of, told, book_means, Kin, Settles, BookSettle, Marks, Raised, new_head, Appended, Extended}
 use Rattle.book.proofs.Headers.{both_0, both_1, both_yes, is-ranked, messages_push, messages_below, sheds-none}

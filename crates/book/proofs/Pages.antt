@@ -3,18 +3,18 @@ use Rattle.std.proofs.Common.{◌≡◌, ℕ, zero, suc, ◌+◌, ◌-◌, ◌<�
 use Rattle.std.proofs.lemmas.List.{get_or_read, length-take, length-drop, length-append}
 use Rattle.fault.specs.declared.disk_pointer.DiskPtr.{DiskPtr}
 use Rattle.fault.specs.declared.disk_pointer.DiskPtr.TheVariants.{Inline}
-use Rattle.log.specs.declared.messages.Kind.TheVariants.{Free}
-use Rattle.log.specs.declared.messages.CacheInfo.{CacheInfo}
-use Rattle.log.specs.declared.reservation.Reservation.{Reservation}
-use Rattle.log.specs.Meaning.{State, pending, meets, met, Message, is_pending, is_live, both, either, is_at, same_ptr, sweep, settle, mark, named, dead, pending_at, live_at}
-use Rattle.log.proofs.Laws.{both_no, eqb_refl, mark-none, mark_push, mark_empty}
-use Rattle.log.specs.declared.messages.Status.{Status}
-use Rattle.log.specs.declared.messages.Status.TheVariants.{Pending, Live, Dead, Cancelled}
-use Rattle.log.specs.declared.messages.Event.{Event}
-use Rattle.log.specs.declared.messages.Event.TheVariants.{Complete, Abort, Mark}
+use Rattle.logs.specs.declared.messages.Kind.TheVariants.{Free}
+use Rattle.logs.specs.declared.messages.CacheInfo.{CacheInfo}
+use Rattle.logs.specs.declared.reservation.Reservation.{Reservation}
+use Rattle.logs.specs.Meaning.{State, pending, meets, met, Message, is_pending, is_live, both, either, is_at, same_ptr, sweep, settle, mark, named, dead, pending_at, live_at}
+use Rattle.logs.proofs.Laws.{both_no, eqb_refl, mark-none, mark_push, mark_empty}
+use Rattle.logs.specs.declared.messages.Status.{Status}
+use Rattle.logs.specs.declared.messages.Status.TheVariants.{Pending, Live, Dead, Cancelled}
+use Rattle.logs.specs.declared.messages.Event.{Event}
+use Rattle.logs.specs.declared.messages.Event.TheVariants.{Complete, Abort, Mark}
 use Rattle.book.specs.declared.head.Head.{Head}
 use Rattle.book.specs.declared.book.Book.{Book}
-use Rattle.log.specs.Meaning.{state_of}
+use Rattle.logs.specs.Meaning.{state_of}
 use Rattle.book.specs.Heads.{message, messages, with_status, bare, Ranked, ranked, payload_of}
 use Rattle.book.specs.Books.{heads_of, mem_of, told, LiveIndex, PendingIndex, Kin, Restated, Met, Settles, Marks}
 use Rattle.book.proofs.Headers.{is-ranked, sweep-one, sweep_not, bare_set, ranked-within, ranked-small}

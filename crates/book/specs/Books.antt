@@ -1,18 +1,18 @@
 -- What the calls of a book promise. Assumes nothing.
 use Rattle.std.specs.Prelude.{◌≡◌, ℕ, ◌+◌, ◌^◌, ◌<◌, ◌≤◌, max, Bool, true, false, List, [], ◌∷◌, ◌++◌, length, get_or, Some, None, Ok, Err, vec_items, vec_len, vec_capacity, Option, Result, slice_index_or, slice_set}
 use Rattle.fault.specs.declared.disk_pointer.DiskPtr.{DiskPtr}
-use Rattle.log.specs.declared.messages.CacheInfo.{CacheInfo}
-use Rattle.log.specs.declared.log_fault.LogFault.{LogFault}
-use Rattle.log.specs.declared.reservation.Reservation.{Reservation}
-use Rattle.log.specs.declared.reservation.Returned.{Returned}
-use Rattle.log.specs.Meaning.{State, Message, Meaning, state_of, met, pending, meets, any_pending, is_live, is_pending, same_ptr, live_at, pending_at, settle, mark}
-use Rattle.log.specs.Clauses.{NotTaken}
-use Rattle.log.specs.declared.messages.Status.{Status}
-use Rattle.log.specs.declared.messages.Status.TheVariants as status
+use Rattle.logs.specs.declared.messages.CacheInfo.{CacheInfo}
+use Rattle.logs.specs.declared.log_fault.LogFault.{LogFault}
+use Rattle.logs.specs.declared.reservation.Reservation.{Reservation}
+use Rattle.logs.specs.declared.reservation.Returned.{Returned}
+use Rattle.logs.specs.Meaning.{State, Message, Meaning, state_of, met, pending, meets, any_pending, is_live, is_pending, same_ptr, live_at, pending_at, settle, mark}
+use Rattle.logs.specs.Clauses.{NotTaken}
+use Rattle.logs.specs.declared.messages.Status.{Status}
+use Rattle.logs.specs.declared.messages.Status.TheVariants as status
 use Rattle.book.specs.declared.head.Head.{Head}
-use Rattle.log.specs.declared.messages.Kind.{Kind}
+use Rattle.logs.specs.declared.messages.Kind.{Kind}
 use Rattle.book.specs.declared.book.Book.{Book}
-use Rattle.log.specs.declared.messages.Event.{Event}
+use Rattle.logs.specs.declared.messages.Event.{Event}
 use Rattle.book.specs.Heads.{message, messages, with_status, bare, lives}
 use borrow.Rule.Slice.PartMut.{put_mid}
 

@@ -1,9 +1,9 @@
 -- What a header means over a memory. Assumes nothing.
 use Rattle.std.specs.Prelude.{◌≡◌, ℕ, ◌+◌, ◌<◌, ◌≤◌, Bool, true, false, not, List, [], ◌∷◌, ◌++◌, length, take, drop, Some, None, Option, ◌≢◌, nat_le, nat_lt, slice_index_or}
-use Rattle.log.specs.declared.messages.Status.{Status}
-use Rattle.log.specs.declared.messages.Status.TheVariants as status
+use Rattle.logs.specs.declared.messages.Status.{Status}
+use Rattle.logs.specs.declared.messages.Status.TheVariants as status
 use Rattle.book.specs.declared.head.Head.{Head}
-use Rattle.log.specs.Meaning.{Message, state_of, both, is_blob, is_live, is_pending}
+use Rattle.logs.specs.Meaning.{Message, state_of, both, is_blob, is_live, is_pending}
 use Rattle.std.specs.List.{filter}
 
 -- the bytes that a header stands for

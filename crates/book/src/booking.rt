@@ -1,15 +1,15 @@
 ghost use Rattle.std.specs.Prelude.{◌≡◌, ℕ, ◌+◌, ◌^◌, ◌<◌, ◌≤◌, true, false, List, [], ◌∷◌, ◌++◌, length, take, drop, vec_len, vec_capacity};
 ghost use borrow.Rule.Slice.PartMut.{put_mid};
-ghost use Rattle.log.specs.Meaning.{is_pending, is_live, same_ptr, any_pending};
-ghost use Rattle.log.specs.Clauses.{OnRead};
-ghost use Rattle.log.specs.Meaning.{state_of};
+ghost use Rattle.logs.specs.Meaning.{is_pending, is_live, same_ptr, any_pending};
+ghost use Rattle.logs.specs.Clauses.{OnRead};
+ghost use Rattle.logs.specs.Meaning.{state_of};
 ghost use Rattle.book.specs.Heads.{At, lives};
 ghost use Rattle.book.specs.Books.{told, heads_of, mem_of, LiveIndex, PendingIndex, Met, BookSettle, Marks, Raised, Ready, Appended, Extended, Compacted, Overwritten};
 
 use crate::book::Book;
 use crate::head::Head;
 use fault::{BytesFault, DiskPtr, Lsn, PageId};
-use log::{CacheInfo, Event, Kind, LogFault, Reservation, Returned, Status};
+use logs::{CacheInfo, Event, Kind, LogFault, Reservation, Returned, Status};
 
 pub fn is_pending(s: Status) -> bool
     ensures { result ≡ is_pending (state_of s) }

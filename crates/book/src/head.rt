@@ -1,5 +1,5 @@
 use fault::{DiskPtr, Lsn, PageId};
-use log::{Kind, Status};
+use logs::{Kind, Status};
 
 // A message of a log: its payload is the `len` bytes at `at` of the log's memory.
 #[derive(Clone, Copy)]

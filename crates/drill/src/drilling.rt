@@ -3,7 +3,7 @@ use crate::model::{Model, Plain, Shape, inline_place, place};
 use crate::random::Random;
 use crate::tally::{Tally, count};
 use fault::{DiskPtr, PageId};
-use log::{CacheInfo, Kind, Log, LogFault, Reservation, Returned, Status};
+use logs::{CacheInfo, Kind, Log, LogFault, Reservation, Returned, Status};
 use std::alloc::{AllocError, Global};
 
 #[derive(Drop)]

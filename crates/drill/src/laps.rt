@@ -2,7 +2,7 @@
 use crate::drilling::give_up;
 use crate::random::Random;
 use fault::PageId;
-use log::{CacheInfo, Kind, Log, Returned};
+use logs::{CacheInfo, Kind, Log, Returned};
 use std::io;
 use std::time::Instant;
 

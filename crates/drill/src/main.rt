@@ -1,5 +1,7 @@
 // Long random runs of calls on both logs, each answer held to a plain model's. It prints how often each thing happened, and
 // how often the two differed. With an argument it prints, instead, how long calls take.
+#![tactic(auto)]
+
 mod drilling;
 mod laps;
 mod model;

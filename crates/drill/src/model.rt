@@ -1,6 +1,6 @@
 // A plain model of a log: a list of messages, each of which knows how its bytes were made.
 use fault::{DiskPtr, Lsn, PageId};
-use log::{CacheInfo, Kind, Status};
+use logs::{CacheInfo, Kind, Status};
 use std::alloc::{AllocError, Global};
 
 #[derive(Clone, Copy)]

@@ -1,5 +1,7 @@
 // Why a call is refused, as the values' layers say it, and what every refusal tells: its number, the page and the pointer
 // that it is about, and the layer that gave it.
+#![tactic(auto)]
+
 pub mod bytes_fault;
 pub mod disk_pointer;
 pub mod node_fault;

@@ -6,9 +6,9 @@ use Rattle.std.proofs.Common.{sym, ap, true≢false}
 use Rattle.std.specs.Ordering.{is_lt, is_gt, is_eq, ordering_reverse, ordering_then, MatchOrdering, nat_cmp}
 use Rattle.std.specs.Cmp.{nat_cmp_total, ranks}
 use Rattle.std.specs.Cmp.Lexicographic.{slice_cmp, lists_total}
-use Rattle.bytes.specs.declared.ivec.IVec.{IVec}
-use Rattle.bytes.specs.Bytes.{bytes_of}
-use Rattle.bytes.proofs.Same.{same_bytes}
+use Rattle.bounded.specs.declared.ivec.IVec.{IVec}
+use Rattle.bounded.specs.Bytes.{bytes_of}
+use Rattle.bounded.proofs.Same.{same_bytes}
 
 -- only a key itself is equal to a key, and the order is total
 pub record Lawful {K : Type 0} (o : K → K → Ordering) : Type 0 where

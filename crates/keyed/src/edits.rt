@@ -1,11 +1,11 @@
 ghost use Rattle.std.specs.Prelude.{◌≡◌, Bool, true, false};
-ghost use Rattle.bytes.specs.Rows.{rows_of};
+ghost use Rattle.bounded.specs.Rows.{rows_of};
 ghost use Rattle.keyed.specs.Rows.{probe, between, rising, Put, Removed};
 
 use crate::order::Order;
 use crate::rows::Keyed;
 use crate::seek::seek;
-use bytes::Table;
+use bounded::Table;
 
 // There is no room for a row with a new key.
 #[derive(Clone, Copy, PartialEq, Eq, Debug)]

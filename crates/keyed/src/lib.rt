@@ -1,5 +1,7 @@
 // Rows in the order of their keys. One seek, one insert and one remove serve every kind of row that has a key, and every
 // kind of key that has an order; each call is an equation over the list of rows.
+#![tactic(auto)]
+
 pub mod edits;
 pub mod order;
 pub mod rows;

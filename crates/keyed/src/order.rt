@@ -2,7 +2,7 @@ ghost use Rattle.std.specs.Prelude.{◌≡◌};
 ghost use Rattle.std.specs.declared.cmp.Ordering.{Ordering as Answer};
 ghost use Rattle.keyed.specs.Order.{Lawful, by_bytes, bytes-lawful};
 
-use bytes::IVec;
+use bounded::IVec;
 use std::cmp::Ordering;
 
 // Keys that have an order: it is total, and only a key itself is equal to a key.

@@ -4,10 +4,10 @@ use Rattle.std.specs.List.{remove}
 use Rattle.std.specs.Option.{option_map}
 use Rattle.std.proofs.lemmas.Bool.{cond-true, lt-ltb}
 use Rattle.fault.specs.declared.node_fault.NodeFault.TheVariants.{WrongKind, Full, NoPointer}
-use Rattle.bytes.specs.Bytes.{bytes_of}
-use Rattle.bytes.specs.Rows.{rows_of}
-use Rattle.bytes.specs.declared.ivec.IVec.{IVec}
-use Rattle.bytes.specs.declared.table.Table.{Table}
+use Rattle.bounded.specs.Bytes.{bytes_of}
+use Rattle.bounded.specs.Rows.{rows_of}
+use Rattle.bounded.specs.declared.ivec.IVec.{IVec}
+use Rattle.bounded.specs.declared.table.Table.{Table}
 use Rattle.keyed.specs.Order.{by_bytes, bytes-lawful}
 use Rattle.keyed.specs.Rows.{rising, lookup, put, without, Searched, Put, Removed}
 use Rattle.keyed.specs.declared.edits.TableFull.{TableFull}

@@ -3,8 +3,8 @@ use Rattle.std.specs.Prelude.{ℕ, List, map, length, Some, None, Ok, Err, Optio
 use Rattle.std.specs.NonZero.{non_zero_u64_get}
 use Rattle.std.specs.Option.{option_map}
 use Rattle.keyed.specs.Rows.{Searched}
-use Rattle.bytes.specs.Bytes.{bytes_of}
-use Rattle.bytes.specs.Rows.{rows_of}
+use Rattle.bounded.specs.Bytes.{bytes_of}
+use Rattle.bounded.specs.Rows.{rows_of}
 use Rattle.node.specs.declared.rows.LeafRow.{LeafRow}
 use Rattle.node.specs.declared.rows.IndexRow.{IndexRow}
 use Rattle.node.specs.declared.rows.Root.{Root}

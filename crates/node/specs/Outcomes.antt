@@ -7,7 +7,7 @@ use Rattle.node.specs.declared.meta.Meta.{Meta}
 use Rattle.node.specs.Nodes.{Str, Contents, Row}
 use Rattle.node.specs.Links.{Changed, root_for}
 use Rattle.node.specs.Meanings.{parts_of, roots_of}
-use Rattle.bytes.specs.Rows.{rows_of}
+use Rattle.bounded.specs.Rows.{rows_of}
 
 -- what a node means
 abbrev pub node_of : Node → Contents

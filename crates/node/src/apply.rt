@@ -1,5 +1,5 @@
 ghost use Rattle.std.specs.Prelude.{◌≡◌, Bool, true, false, map, Ok, Err, MatchResult};
-ghost use Rattle.bytes.specs.Bytes.{bytes_of};
+ghost use Rattle.bounded.specs.Bytes.{bytes_of};
 ghost use Rattle.fault.specs.declared.node_fault.NodeFault.TheVariants.{Unlawful};
 ghost use Rattle.node.specs.Nodes.{lawful, empty_leaf};
 ghost use Rattle.node.specs.Links.{set_leaf, del_leaf, intend_child, confirm_in, applied, parent_split, folded};

@@ -1,12 +1,12 @@
 ghost use Rattle.std.specs.Prelude.{◌≡◌, Bool, true, []};
-ghost use Rattle.bytes.specs.Bytes.{bytes_of};
+ghost use Rattle.bounded.specs.Bytes.{bytes_of};
 ghost use Rattle.node.specs.Nodes.{ordered_rows, row_count, index, leaf};
 ghost use Rattle.node.specs.Links.{set_rows, del_rows, confirm_rows, split_rows};
 ghost use Rattle.node.specs.Outcomes.{Does, Answers};
 ghost use Rattle.node.specs.Meanings.{data_of, Pointed};
 
 use crate::rows::{IndexRow, Key, LeafRow, Value};
-use bytes::Table;
+use bounded::Table;
 use fault::{NodeFault, PageId};
 use keyed::edits::{remove_row, set_row};
 use keyed::seek::{find_row, is_rising};

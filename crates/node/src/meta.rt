@@ -1,10 +1,10 @@
 ghost use Rattle.std.specs.Prelude.{◌≡◌, true};
-ghost use Rattle.bytes.specs.Rows.{rows_of};
+ghost use Rattle.bounded.specs.Rows.{rows_of};
 ghost use Rattle.node.specs.Nodes.{ordered};
 ghost use Rattle.node.specs.Meanings.{roots_of};
 
 use crate::rows::Root;
-use bytes::Table;
+use bounded::Table;
 
 // The roots, in rising order of their names.
 #[derive(Clone, Copy)]

@@ -1,5 +1,5 @@
 ghost use Rattle.std.specs.Prelude.{◌≡◌, Bool, true};
-ghost use Rattle.bytes.specs.Bytes.{bytes_of};
+ghost use Rattle.bounded.specs.Bytes.{bytes_of};
 ghost use Rattle.node.specs.Nodes.{lawful, inside, empty_leaf};
 ghost use Rattle.node.specs.Meanings.{parts_of};
 

@@ -1,6 +1,6 @@
 ghost use Rattle.std.specs.Prelude.{◌≡◌, Bool, true, false, [], MatchResult};
-ghost use Rattle.bytes.specs.Bytes.{bytes_of};
-ghost use Rattle.bytes.specs.Rows.{rows_of};
+ghost use Rattle.bounded.specs.Bytes.{bytes_of};
+ghost use Rattle.bounded.specs.Rows.{rows_of};
 ghost use Rattle.std.specs.Option.{option_map};
 ghost use Rattle.fault.specs.declared.node_fault.NodeFault.TheVariants.{Unlawful};
 ghost use Rattle.keyed.specs.Rows.{without};
@@ -11,7 +11,7 @@ ghost use Rattle.node.specs.Outcomes.{meta_of, Roots};
 
 use crate::meta::Meta;
 use crate::rows::{Key, Root};
-use bytes::Table;
+use bounded::Table;
 use fault::{NodeFault, PageId};
 use keyed::edits::{remove_row, set_row};
 use keyed::seek::{find_row, is_rising};

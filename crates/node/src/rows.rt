@@ -1,6 +1,6 @@
 ghost use Rattle.std.specs.Prelude.{◌≡◌, ◌^◌, ◌<◌};
 
-use bytes::IVec;
+use bounded::IVec;
 use fault::PageId;
 use keyed::Keyed;
 

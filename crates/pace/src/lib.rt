@@ -1,6 +1,8 @@
 // Loops over the values for a stopwatch outside: each does one thing many times and answers a sum, so that nothing is left
 // out by the compiler. They are called from perf/, through the static library.
-use bytes::Table;
+#![tactic(auto)]
+
+use bounded::Table;
 use fault::ValueFault;
 use node::{Data, Key, LeafRow, Link, Node, NodeParts, Value};
 use serialization::serialize::decode;

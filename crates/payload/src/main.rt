@@ -1,5 +1,7 @@
 // Reads lines and prints, for each, its number and what it did: the bytes of a value, the value of bytes, or the refusal. It
 // holds one node and one Meta, which the lines change.
+#![tactic(auto)]
+
 mod answer;
 mod command;
 mod line_fault;

@@ -10,7 +10,7 @@ ghost use Rattle.payload.specs.Telling.{bytes_read, kind_read};
 
 use crate::answer::Read;
 use crate::command::{Change, Kind, Row, Rows, Shape};
-use bytes::Table;
+use bounded::Table;
 use fault::{BytesFault, NodeFault, PageId, ValueFault};
 use node::{Data, IndexRow, Key, LeafRow, Link, Meta, Node, NodeParts, Value};
 use serialization::Free;

@@ -6,10 +6,10 @@ use Rattle.std.proofs.lemmas.List.{drop-take, length-append}
 use Rattle.std.proofs.lemmas.Slice.{take-put_mid_below, drop-put_mid, between-put_mid}
 use Rattle.fault.specs.declared.disk_pointer.DiskPtr.{DiskPtr}
 use Rattle.fault.specs.declared.disk_pointer.DiskPtr.TheVariants.{Inline, Blob}
-use Rattle.log.specs.Meaning.{Message, State, both, either, is_done, is_live, is_pending, any_pending, pending, live, dead, cancelled, Sheds, none, kept, shed}
-use Rattle.log.proofs.Laws.{both_no, either_left, either_right}
+use Rattle.logs.specs.Meaning.{Message, State, both, either, is_done, is_live, is_pending, any_pending, pending, live, dead, cancelled, Sheds, none, kept, shed}
+use Rattle.logs.proofs.Laws.{both_no, either_left, either_right}
 use Rattle.book.specs.declared.head.Head.{Head}
-use Rattle.log.specs.Meaning.{state_of}
+use Rattle.logs.specs.Meaning.{state_of}
 use Rattle.book.specs.Heads.{message, messages, bare, with_status, lives, live_head}
 use Rattle.book.proofs.Headers.{both_0, both_1, both_yes}
 use Rattle.fault.specs.Pointers.{lid_of}

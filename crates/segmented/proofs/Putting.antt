@@ -2,15 +2,15 @@
 use Rattle.std.proofs.Common.{◌≡◌, ℕ, zero, suc, ◌+◌, ◌-◌, ◌*◌, ◌/◌, ◌^◌, ◌<◌, ◌≤◌, Bool, true, false, cond, not, eqb, ltb, leb, ◌⊎◌, List, [], ◌∷◌, ◌++◌, length, get_or, take, drop, is_some, Some, None, vec_items, vec_len, vec_capacity, sym, refl, ap, ◌∙◌, subst, inl, inr, arith, ltb-true, lt-ltb, eq-eqb, ne_eqb, eqb-true, le-leb, leb-true}
 use borrow.Rule.Slice.PartMut.{put_mid}
 use Rattle.std.proofs.lemmas.List.{length-take, length-drop}
-use Rattle.log.specs.declared.messages.Kind.{Kind}
+use Rattle.logs.specs.declared.messages.Kind.{Kind}
 use Rattle.fault.specs.declared.disk_pointer.DiskPtr.{DiskPtr}
 use Rattle.fault.specs.declared.disk_pointer.DiskPtr.TheVariants.{Inline, Blob}
-use Rattle.log.specs.declared.reservation.Reservation.{Reservation}
-use Rattle.log.specs.Meaning.{Message, Meaning, State, both, either, any_pending, is_pending, is_live, pending, live, dead, cancelled, Sheds, Below, same_blob, same_ptr, is_blob, live_at}
-use Rattle.log.specs.Clauses.{fresh, Reserved, Moved, blob_there}
+use Rattle.logs.specs.declared.reservation.Reservation.{Reservation}
+use Rattle.logs.specs.Meaning.{Message, Meaning, State, both, either, any_pending, is_pending, is_live, pending, live, dead, cancelled, Sheds, Below, same_blob, same_ptr, is_blob, live_at}
+use Rattle.logs.specs.Clauses.{fresh, Reserved, Moved, blob_there}
 use Rattle.book.specs.declared.head.Head.{Head}
 use Rattle.book.specs.declared.book.Book.{Book}
-use Rattle.log.specs.Meaning.{state_of}
+use Rattle.logs.specs.Meaning.{state_of}
 use Rattle.book.specs.Heads.{message, messages, bare, lives, live_head, payload_of}
 use Rattle.book.specs.Books.{heads_of, mem_of, told, new_head, book_means, Ready, Appended, Overwritten, Compacted, Kin, LiveIndex}
 use Rattle.book.proofs.Pages.{found-there, no_head}

@@ -4,8 +4,8 @@ use Rattle.std.proofs.lemmas.List.Filters.{length-filter_more}
 use Rattle.book.specs.Heads.{lives, live_head}
 use Rattle.std.proofs.lemmas.List.{drop_more}
 use Rattle.book.specs.declared.head.Head.{Head}
-use Rattle.log.specs.Meaning.{both, either}
-use Rattle.log.proofs.Laws.{both_no}
+use Rattle.logs.specs.Meaning.{both, either}
+use Rattle.logs.proofs.Laws.{both_no}
 use Rattle.segmented.specs.Layout.{some_head}
 
 pub some_more : (T : Head → Bool) (hs : List Head) (i : ℕ) (d : Head) (b : Bool) → i < length hs → T (get_or hs i d) ≡ b → some_head T (drop i hs) ≡ either b (some_head T (drop (i + 1) hs))

@@ -2,10 +2,10 @@
 use Rattle.std.proofs.Common.{◌≡◌, ℕ, zero, suc, ◌+◌, ◌-◌, ◌<◌, ◌≤◌, Bool, true, false, cond, not, ◌⊎◌, List, [], ◌∷◌, ◌++◌, length, get_or, take, Some, None, Option, sym, refl, ap, ◌∙◌, subst, inl, inr, arith}
 use Rattle.std.proofs.lemmas.Bool.{cases_lt}
 use Rattle.std.proofs.lemmas.List.{take_more, take_all}
-use Rattle.log.specs.Meaning.{both}
+use Rattle.logs.specs.Meaning.{both}
 use Rattle.book.specs.declared.head.Head.{Head}
 use Rattle.book.specs.Heads.{live_head}
-use Rattle.log.proofs.Laws.{either_left, either_right}
+use Rattle.logs.proofs.Laws.{either_left, either_right}
 use Rattle.segmented.specs.Layout.{some_head, in_seg, live_in, one_if, count_live, Rival, Sparse, Lowest}
 
 count_push : (q : ℕ) (hs : List Head) (x : Head) → count_live q (hs ++ (x ∷ [])) ≡ count_live q hs + one_if (both (live_head x) (in_seg q x))

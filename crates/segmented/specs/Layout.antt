@@ -3,9 +3,9 @@ use Rattle.std.specs.Prelude.{◌≡◌, ℕ, zero, suc, ◌+◌, ◌*◌, ◌/�
 use Rattle.fault.specs.declared.disk_pointer.DiskPtr.{DiskPtr}
 use Rattle.fault.specs.declared.disk_pointer.DiskPtr.TheVariants.{Inline, Blob}
 use Rattle.fault.specs.Pointers.{lid_of}
-use Rattle.log.specs.Meaning.{both, either, is_done, is_blob}
+use Rattle.logs.specs.Meaning.{both, either, is_done, is_blob}
 use Rattle.book.specs.declared.head.Head.{Head}
-use Rattle.log.specs.Meaning.{state_of}
+use Rattle.logs.specs.Meaning.{state_of}
 use Rattle.book.specs.Heads.{live_head}
 
 -- how many bytes of its segment the message takes

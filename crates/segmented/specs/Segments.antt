@@ -1,9 +1,9 @@
 -- What a segmented log means. Assumes nothing.
 use Rattle.std.specs.Prelude.{◌≡◌, ℕ, ◌+◌, ◌*◌, ◌^◌, ◌<◌, ◌≤◌, Bool, true, false, cond, not, ◌⊎◌, List, [], ◌∷◌, ◌++◌, length, Some, None, vec_len, vec_capacity, Option, nat_le, nat_lt}
-use Rattle.log.specs.declared.messages.Kind.{Kind}
-use Rattle.log.specs.declared.reservation.Reservation.{Reservation}
-use Rattle.log.specs.Meaning.{Meaning, both, either, pending, any_pending, same_blob}
-use Rattle.log.specs.Clauses.{fresh}
+use Rattle.logs.specs.declared.messages.Kind.{Kind}
+use Rattle.logs.specs.declared.reservation.Reservation.{Reservation}
+use Rattle.logs.specs.Meaning.{Meaning, both, either, pending, any_pending, same_blob}
+use Rattle.logs.specs.Clauses.{fresh}
 use Rattle.book.specs.declared.book.Book.{Book}
 use Rattle.book.specs.declared.head.Head.{Head}
 use Rattle.book.specs.Heads.{lives}

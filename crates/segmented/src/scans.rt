@@ -1,5 +1,5 @@
 ghost use Rattle.std.specs.Prelude.{◌≡◌, ℕ, ◌<◌, ◌≤◌};
-ghost use Rattle.log.specs.Meaning.{both};
+ghost use Rattle.logs.specs.Meaning.{both};
 ghost use Rattle.book.specs.Heads.{live_head};
 ghost use Rattle.fault.specs.Pointers.{lid_of};
 ghost use Rattle.segmented.specs.Layout.{slot_is, busy_head, seg_busy, slot_busy, in_seg, in_slot, SlotOf, Sparse, at_most, Lowest};
@@ -7,7 +7,7 @@ ghost use Rattle.segmented.specs.Layout.{slot_is, busy_head, seg_busy, slot_busy
 use book::Head;
 use book::booking::is_live;
 use fault::{DiskPtr, PageId};
-use log::Status;
+use logs::Status;
 
 pub(crate) fn in_slot(pointer: DiskPtr, i: u64) -> bool
     ensures { result ≡ slot_is i pointer }

@@ -1,7 +1,7 @@
 ghost use Rattle.std.specs.Prelude.{◌≡◌, ℕ, ◌+◌, ◌*◌, ◌^◌, ◌<◌, ◌≤◌, max, true, false, List, [], ◌∷◌, ◌++◌, length, take, drop, IfOk, vec_len, vec_capacity};
 ghost use Rattle.fault.specs.declared.disk_pointer.DiskPtr.TheVariants as pointer;
-ghost use Rattle.log.specs.Meaning.{any_pending, same_blob};
-ghost use Rattle.log.specs.Clauses.{OnReserve};
+ghost use Rattle.logs.specs.Meaning.{any_pending, same_blob};
+ghost use Rattle.logs.specs.Clauses.{OnReserve};
 ghost use Rattle.book.specs.Books.{heads_of, mem_of, told};
 ghost use Rattle.segmented.specs.Layout.{free_seg, free_slot, Picked, some_head, in_slot};
 ghost use Rattle.segmented.specs.Segments.{seg_means, empty_segmented, OnReady, Able, Swept, Put, Proposes};
@@ -10,7 +10,7 @@ use crate::scans::{lowest_page, seg_busy, slot_busy, slot_of, sparse_segment};
 use crate::segmented::Segmented;
 use book::{Book, Head};
 use fault::{DiskPtr, LogOffset, Lsn, PageId};
-use log::{CacheInfo, Event, Kind, Log, LogFault, Reservation, Returned};
+use logs::{CacheInfo, Event, Kind, Log, LogFault, Reservation, Returned};
 use std::alloc::{AllocError, Global};
 
 impl Segmented {

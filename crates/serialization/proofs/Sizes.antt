@@ -1,11 +1,11 @@
 -- Every value of the types is within the sizes. Assumes nothing.
 use Rattle.std.proofs.Common.{◌≡◌, ℕ, ◌≤◌, List, [], ◌∷◌, map, length, arith}
 use Rattle.std.proofs.lemmas.List.{length-map}
-use Rattle.bytes.specs.Bytes.{bytes_of}
-use Rattle.bytes.specs.Rows.{rows_of}
-use Rattle.bytes.specs.declared.ivec.IVec.{IVec}
-use Rattle.bytes.specs.declared.table.Table.{Table}
-use Rattle.bytes.proofs.Same.{len_bytes}
+use Rattle.bounded.specs.Bytes.{bytes_of}
+use Rattle.bounded.specs.Rows.{rows_of}
+use Rattle.bounded.specs.declared.ivec.IVec.{IVec}
+use Rattle.bounded.specs.declared.table.Table.{Table}
+use Rattle.bounded.proofs.Same.{len_bytes}
 use Rattle.node.specs.declared.rows.LeafRow.{LeafRow}
 use Rattle.node.specs.declared.rows.IndexRow.{IndexRow}
 use Rattle.node.specs.declared.rows.Root.{Root}

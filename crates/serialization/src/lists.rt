@@ -1,12 +1,12 @@
 // Tables of rows as bytes: the count, and then each row.
 ghost use Rattle.std.specs.Prelude.{◌≡◌, ℕ, ◌+◌, ◌*◌, ◌<◌, ◌≤◌, List, map, length};
-ghost use Rattle.bytes.specs.Rows.{rows_of};
+ghost use Rattle.bounded.specs.Rows.{rows_of};
 ghost use Rattle.serialization.specs.Formats.{list_bytes, parse_list};
 ghost use Rattle.serialization.specs.Calls.{Wrote, Takes};
 
 use crate::groups::{put_number, take_number};
 use crate::pieces::RowBytes;
-use bytes::Table;
+use bounded::Table;
 use fault::BytesFault;
 
 // Takes at most N rows; `fill` is what the spare places hold.

@@ -1,6 +1,6 @@
 // Strings and rows as bytes.
 ghost use Rattle.std.specs.Prelude.{◌≡◌, ℕ, ◌+◌, ◌<◌, ◌≤◌, List, length};
-ghost use Rattle.bytes.specs.Bytes.{bytes_of};
+ghost use Rattle.bounded.specs.Bytes.{bytes_of};
 ghost use Rattle.node.specs.Nodes.{Str, Row};
 ghost use Rattle.node.specs.Meanings.{leaf_row, index_row, root_row};
 ghost use Rattle.serialization.specs.Parsing.{Parsed};
@@ -8,7 +8,7 @@ ghost use Rattle.serialization.specs.Formats.{str_bytes, parse_string, leaf_byte
 ghost use Rattle.serialization.specs.Calls.{Wrote, Takes};
 
 use crate::groups::{put_bytes, put_number, take_number};
-use bytes::IVec;
+use bounded::IVec;
 use fault::BytesFault;
 use node::{IndexRow, Key, LeafRow, Root, Value};
 

@@ -1,10 +1,12 @@
 // Takes the same steps on a tape and on a segmented log, and prints what each did and the messages after.
+#![tactic(auto)]
+
 mod listed;
 mod shown;
 
 use fault::PageId;
 use listed::Listed;
-use log::{CacheInfo, Kind, Log, LogFault, Reservation, Returned};
+use logs::{CacheInfo, Kind, Log, LogFault, Reservation, Returned};
 use segmented::Segmented;
 use shown::{show_entry, show_messages, show_proposal, show_read};
 use std::io;

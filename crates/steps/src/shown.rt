@@ -2,7 +2,7 @@
 use crate::listed::Listed;
 use book::Head;
 use fault::{DiskPtr, PageId};
-use log::{CacheInfo, Log, LogFault};
+use logs::{CacheInfo, Log, LogFault};
 use std::io;
 
 pub fn show_entry(

@@ -2,9 +2,9 @@
 use Rattle.std.proofs.Common.{◌≡◌, ℕ, ◌+◌, ◌*◌, ◌^◌, ◌<◌, ◌≤◌, Bool, true, false, ltb, leb, List, [], ◌∷◌, ◌++◌, length, vec_items, vec_len, vec_capacity, sym, refl, ap, ◌∙◌, subst, arith, ltb-true, leb-true}
 use Rattle.std.proofs.lemmas.List.{length-append, length_push}
 use Rattle.fault.specs.declared.disk_pointer.DiskPtr.{DiskPtr}
-use Rattle.log.specs.declared.messages.Kind.{Kind}
-use Rattle.log.specs.declared.reservation.Reservation.{Reservation}
-use Rattle.log.specs.Meaning.{both, any_pending, is_blob}
+use Rattle.logs.specs.declared.messages.Kind.{Kind}
+use Rattle.logs.specs.declared.reservation.Reservation.{Reservation}
+use Rattle.logs.specs.Meaning.{both, any_pending, is_blob}
 use Rattle.book.specs.declared.book.Book.{Book}
 use Rattle.book.specs.Heads.{inlined, messages}
 use Rattle.book.specs.Books.{heads_of, mem_of, told, Kin, Ready, Extended, Appended, new_head}

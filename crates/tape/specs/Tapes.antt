@@ -1,6 +1,6 @@
 -- What a tape means. Assumes nothing.
 use Rattle.std.specs.Prelude.{ℕ, ◌+◌, ◌*◌, ◌^◌, Bool, false, [], length, nat_le, nat_lt}
-use Rattle.log.specs.Meaning.{Meaning, both}
+use Rattle.logs.specs.Meaning.{Meaning, both}
 use Rattle.book.specs.declared.book.Book.{Book}
 use Rattle.book.specs.Books.{heads_of, mem_of, book_means}
 use Rattle.tape.specs.declared.tape.Tape.{Tape}

@@ -1,4 +1,6 @@
 // A log that writes on to its end, uses no space again and proposes nothing.
+#![tactic(auto)]
+
 pub mod tape;
 pub mod taping;
 

@@ -5,7 +5,7 @@ ghost use Rattle.tape.specs.Tapes.{tape_means, tape_fits, empty_tape};
 use crate::tape::Tape;
 use book::{Book, Head};
 use fault::{DiskPtr, LogOffset, Lsn, PageId};
-use log::{CacheInfo, Event, Kind, Log, LogFault, Reservation, Returned};
+use logs::{CacheInfo, Event, Kind, Log, LogFault, Reservation, Returned};
 use std::alloc::{AllocError, Global};
 
 impl Tape {

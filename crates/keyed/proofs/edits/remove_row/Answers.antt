@@ -1,5 +1,5 @@
 -- The row that was found is removed, and where none was found nothing is.
-use Rattle.bytes.specs.Rows.{rows_of}
+use Rattle.bounded.specs.Rows.{rows_of}
 use Rattle.keyed.proofs.Changes.{cut_found, cut_none}
 use Rattle.keyed.proofs.edits.remove_row.Goals as goal
 

@@ -1,5 +1,5 @@
 -- A row that was found is replaced; one that was not is inserted where the search ended, or finds no room.
-use Rattle.bytes.specs.Rows.{rows_of}
+use Rattle.bounded.specs.Rows.{rows_of}
 use Rattle.keyed.proofs.Changes.{set_found, set_new, set_full}
 use Rattle.keyed.proofs.edits.set_row.Goals as goal
 

@@ -1,5 +1,5 @@
 use Rattle.std.proofs.Common.{◌≡◌, ap, ◌∙◌}
-use Rattle.bytes.specs.Rows.{rows_of}
+use Rattle.bounded.specs.Rows.{rows_of}
 use Rattle.node.specs.Meanings.{index_row}
 use Rattle.node.specs.Nodes.{index}
 use Rattle.payload.specs.Asked.{index_asked}

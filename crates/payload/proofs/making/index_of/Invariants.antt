@@ -1,6 +1,6 @@
 -- The rows so far are those that were asked for.
 use Rattle.std.proofs.Common.{◌≡◌, map, take}
-use Rattle.bytes.specs.Rows.{rows_of}
+use Rattle.bounded.specs.Rows.{rows_of}
 use Rattle.node.specs.Meanings.{index_row}
 use Rattle.payload.specs.Asked.{index_asked}
 use Rattle.payload.proofs.making.index_of.Given as goal

@@ -1,5 +1,5 @@
 use Rattle.std.proofs.Common.{◌≡◌, ap, ◌∙◌}
-use Rattle.bytes.specs.Rows.{rows_of}
+use Rattle.bounded.specs.Rows.{rows_of}
 use Rattle.node.specs.Meanings.{leaf_row}
 use Rattle.node.specs.Nodes.{leaf}
 use Rattle.payload.specs.Asked.{leaf_asked}

@@ -1,6 +1,6 @@
 -- The rows so far are those that were asked for.
 use Rattle.std.proofs.Common.{◌≡◌, map, take}
-use Rattle.bytes.specs.Rows.{rows_of}
+use Rattle.bounded.specs.Rows.{rows_of}
 use Rattle.node.specs.Meanings.{leaf_row}
 use Rattle.payload.specs.Asked.{leaf_asked}
 use Rattle.payload.proofs.making.leaf_of.Given as goal

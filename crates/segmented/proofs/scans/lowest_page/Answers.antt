@@ -1,7 +1,7 @@
 use Rattle.std.proofs.Common.{◌≡◌, List, [], ◌∷◌, ◌++◌, get_or, take, Some, sym, refl, ap, ◌∙◌}
 use Rattle.fault.specs.declared.disk_pointer.DiskPtr.TheVariants.{Inline}
-use Rattle.log.specs.declared.messages.Kind.TheVariants.{Counter}
-use Rattle.log.specs.declared.messages.Status.TheVariants.{Pending}
+use Rattle.logs.specs.declared.messages.Kind.TheVariants.{Counter}
+use Rattle.logs.specs.declared.messages.Status.TheVariants.{Pending}
 use Rattle.book.specs.declared.head.Head.{Head}
 use Rattle.std.proofs.lemmas.List.{take_more, take_all}
 use Rattle.segmented.proofs.Lowered.{low_skip, low_same, low_new, low-on}

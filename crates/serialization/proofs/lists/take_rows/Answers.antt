@@ -2,7 +2,7 @@ use Rattle.std.proofs.Common.{◌≡◌, ◌<◌, Bool, cond, List, [], ◌∷�
 use Rattle.std.proofs.lemmas.List.{map-append}
 use Rattle.std.proofs.lemmas.Result.{err_from_is_err_and}
 use Rattle.std.proofs.lemmas.Bool.{lt-ltb, cond-true}
-use Rattle.bytes.specs.Rows.{rows_of}
+use Rattle.bounded.specs.Rows.{rows_of}
 use Rattle.serialization.specs.Parsing.{Parsed, times}
 use Rattle.serialization.specs.Calls.{Stops}
 use Rattle.serialization.proofs.Reading.{stops_then, list_long, list_within, rows_start, rows_again, rows_stop, rows_end}

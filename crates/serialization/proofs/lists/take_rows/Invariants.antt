@@ -1,5 +1,5 @@
 use Rattle.std.proofs.Common.{◌≡◌, ◌-◌, ◌++◌, map, length}
-use Rattle.bytes.specs.Rows.{rows_of}
+use Rattle.bounded.specs.Rows.{rows_of}
 use Rattle.serialization.specs.Parsing.{read, and_then, times}
 use Rattle.serialization.proofs.lists.take_rows.Given as goal
 

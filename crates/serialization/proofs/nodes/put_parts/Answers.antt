@@ -1,5 +1,5 @@
 use Rattle.std.proofs.Common.{◌≡◌, ℕ, List, ◌∷◌, ◌++◌, arith}
-use Rattle.bytes.specs.Bytes.{bytes_of}
+use Rattle.bounded.specs.Bytes.{bytes_of}
 use Rattle.node.specs.Meanings.{data_of, parts_of}
 use Rattle.serialization.specs.Numbers.{number}
 use Rattle.serialization.specs.Formats.{str_bytes, data_bytes, node_bytes}

@@ -1,5 +1,5 @@
 use Rattle.std.proofs.Common.{◌≡◌, ◌++◌, length, ap, arith}
-use Rattle.bytes.specs.Bytes.{bytes_of}
+use Rattle.bounded.specs.Bytes.{bytes_of}
 use Rattle.serialization.specs.Numbers.{number}
 use Rattle.serialization.specs.Formats.{str_bytes}
 use Rattle.serialization.specs.Numbering.{number_small}

@@ -1,8 +1,8 @@
 -- One message meets an event, and only its state may change.
 use Rattle.std.proofs.Common.{◌≡◌, length, get_or, set, refl, ap, ◌∙◌, rules}
 use Rattle.std.proofs.lemmas.List.{get_or_read}
-use Rattle.log.specs.Meaning.{met}
-use Rattle.log.specs.declared.messages.Status.{Status}
+use Rattle.logs.specs.Meaning.{met}
+use Rattle.logs.specs.declared.messages.Status.{Status}
 use Rattle.book.specs.declared.head.Head.{Head}
 use Rattle.book.specs.Heads.{with_status}
 use Rattle.book.specs.Books.{heads_of, mem_of}

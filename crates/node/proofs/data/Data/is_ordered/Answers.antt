@@ -1,5 +1,5 @@
 use Rattle.std.proofs.Common.{sym, ap, ◌∙◌}
-use Rattle.bytes.specs.Rows.{rows_of}
+use Rattle.bounded.specs.Rows.{rows_of}
 use Rattle.keyed.specs.Rows.{rising}
 use Rattle.keyed.proofs.Meanings.{map-rising}
 use Rattle.node.specs.Nodes.{by_key, ordered_rows}

@@ -1,6 +1,6 @@
 use Rattle.std.proofs.Common.{sym, ap, ◌∙◌}
 use Rattle.std.proofs.lemmas.List.{length-map}
-use Rattle.bytes.specs.Rows.{rows_of}
+use Rattle.bounded.specs.Rows.{rows_of}
 use Rattle.node.specs.Nodes.{row_count}
 use Rattle.node.specs.Meanings.{leaf_row, index_row, data_of}
 use Rattle.node.proofs.data.Data.len.Goals as goal

@@ -1,6 +1,6 @@
 use Rattle.std.proofs.Common.{ap, ◌∙◌}
-use Rattle.bytes.specs.Bytes.{bytes_of}
-use Rattle.bytes.specs.Rows.{rows_of}
+use Rattle.bounded.specs.Bytes.{bytes_of}
+use Rattle.bounded.specs.Rows.{rows_of}
 use Rattle.node.specs.Links.{page_of}
 use Rattle.node.specs.Meanings.{root_row}
 use Rattle.node.proofs.Tables.{cut_done}

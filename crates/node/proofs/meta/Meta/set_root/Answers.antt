@@ -1,7 +1,7 @@
 use Rattle.std.proofs.Common.{◌≡◌, cond, Ok, Err, sym, refl, ap, ◌∙◌}
 use Rattle.fault.specs.declared.node_fault.NodeFault.TheVariants.{TooManyRoots}
-use Rattle.bytes.specs.Bytes.{bytes_of}
-use Rattle.bytes.specs.Rows.{rows_of}
+use Rattle.bounded.specs.Bytes.{bytes_of}
+use Rattle.bounded.specs.Rows.{rows_of}
 use Rattle.keyed.specs.Rows.{put}
 use Rattle.keyed.specs.declared.edits.TableFull.{TableFull}
 use Rattle.node.specs.Nodes.{sought}

@@ -1,5 +1,5 @@
 use Rattle.std.proofs.Common.{◌≡◌, ◌+◌, ◌^◌, ◌<◌, ◌≤◌, false, refl, rules}
-use Rattle.log.specs.Meaning.{any_pending}
+use Rattle.logs.specs.Meaning.{any_pending}
 use Rattle.book.specs.Books.{told}
 use Rattle.segmented.proofs.Kept.{open_keeps}
 use Rattle.segmented.proofs.Putting.{prepared_here, prepared_open, ready-here, ready_open}

@@ -1,5 +1,5 @@
 use Rattle.std.proofs.Common.{◌≡◌, ◌+◌, ◌≤◌, true, false, length, arith, rules}
-use Rattle.log.specs.Meaning.{any_pending}
+use Rattle.logs.specs.Meaning.{any_pending}
 use Rattle.book.specs.Books.{told}
 use Rattle.segmented.specs.Segments.{seg_means, seg_fits}
 use Rattle.segmented.proofs.Putting.{reserved, fits_inline}

@@ -1,4 +1,4 @@
-use Rattle.log.specs.declared.messages.Event.TheVariants.{Abort}
+use Rattle.logs.specs.declared.messages.Event.TheVariants.{Abort}
 use Rattle.book.proofs.Logs.{settle-kin, on-settle}
 use Rattle.segmented.specs.Segments.{seg_fits, ready}
 use Rattle.segmented.proofs.Kept.{kin_keeps}

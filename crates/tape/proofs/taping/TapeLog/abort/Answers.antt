@@ -1,5 +1,5 @@
 use Rattle.std.proofs.Common.{false}
-use Rattle.log.specs.declared.messages.Event.TheVariants.{Abort}
+use Rattle.logs.specs.declared.messages.Event.TheVariants.{Abort}
 use Rattle.book.proofs.Logs.{settle-kin, on-settle}
 use Rattle.tape.specs.Tapes.{tape_fits}
 use Rattle.tape.proofs.Tapes.{kin_keeps}

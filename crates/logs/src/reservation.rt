@@ -1,0 +1,61 @@
+ghost use Rattle.std.specs.Prelude.{◌≡◌};
+ghost use Rattle.logs.specs.Meaning.{Spent};
+
+use crate::log_fault::LogFault;
+use fault::{DiskPtr, Lsn};
+
+// A place in a log that has to be handed to complete or abort: it can be neither dropped nor taken apart.
+pub struct Reservation {
+    log: u64,
+    lsn: Lsn,
+    pointer: DiskPtr,
+}
+
+// A reservation that a log did not take, and why.
+pub struct Returned {
+    pub reservation: Reservation,
+    pub fault: LogFault,
+}
+
+impl Reservation {
+    // A reservation of the message at a position and pointer, in the log with this number.
+    pub fn new(log: u64, lsn: Lsn, pointer: DiskPtr) -> Reservation
+        ensures { (result.log ≡ log) × (result.lsn ≡ lsn) × (result.pointer ≡ pointer) }
+    {
+        Reservation { log, lsn, pointer }
+    }
+
+    // The number of its log.
+    pub fn log(&self) -> u64
+        ensures { result ≡ self.now.log }
+    {
+        self.log
+    }
+
+    pub fn lsn(&self) -> Lsn
+        ensures { result ≡ self.now.lsn }
+    {
+        self.lsn
+    }
+
+    pub fn pointer(&self) -> DiskPtr
+        ensures { result ≡ self.now.pointer }
+    {
+        self.pointer
+    }
+
+    // Ends the reservation of the message that a log has just settled; any other is given back.
+    pub fn spend(self, log: u64, lsn: Lsn, pointer: DiskPtr) -> Result<(), Reservation>
+        ensures { Spent self log lsn pointer result }
+    {
+        if self.log != log || self.lsn != lsn || self.pointer != pointer {
+            return Err(self);
+        }
+        let Reservation {
+            log: _,
+            lsn: _,
+            pointer: _,
+        } = self;
+        Ok(())
+    }
+}
