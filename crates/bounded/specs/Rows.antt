@@ -1,5 +1,5 @@
 -- The rows of a table, as a list. Assumes nothing.
-use Rattle.std.specs.Prelude.{ℕ, suc, List, [], ◌∷◌, ◌++◌, take, drop}
+use Rattle.std.specs.Prelude.{ℕ, List, ◌++◌, take, drop}
 use Rattle.bounded.specs.declared.table.Table.{Table}
 
 module _ {T : Type 0} {N : ℕ} where

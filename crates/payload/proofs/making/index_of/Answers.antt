@@ -9,8 +9,8 @@ use Rattle.payload.proofs.making.index_of.Goals as goal
 pub loop-row-preserved : goal.loop-row-preserved
 loop-row-preserved c =
     let l = c.loop-row in
-    let key = c.as-slice.ensures.value in
-    fill_more index_row index_asked (rows_of l.table) c.args.rows.now l.row-index l.invariant (rows_of c.push.new.self) c.in-ok-row.row c.row-item.result c.loop-row-test.true c.row-item.is c.if-not-push.ensures.rows (c.in-ok-row.ensures ∙ ap (λ k. (k, c.row-item.result.value)) key)
+    let key = c.as_slice.ensures.value in
+    fill_more index_row index_asked (rows_of l.table) c.args.rows.now l.row-index l.invariant (rows_of c.push.new.self) c.in_ok-row.row c.row-item.result c.loop-row-test.true c.row-item.is c.if-not-push.ensures.rows (c.in_ok-row.ensures ∙ ap (λ k. (k, c.row-item.result.value)) key)
 
 pub returns : goal.returns
 returns c =

@@ -9,9 +9,9 @@ use Rattle.payload.proofs.making.leaf_of.Goals as goal
 pub loop-row-preserved : goal.loop-row-preserved
 loop-row-preserved c =
     let l = c.loop-row in
-    let key = c.as-slice.ensures.value in
-    let value = c.as-slice-in-loop-row.ensures.value in
-    fill_more leaf_row leaf_asked (rows_of l.table) c.args.rows.now l.row-index l.invariant (rows_of c.push.new.self) c.in-ok-row.row c.row-item.result c.loop-row-test.true c.row-item.is c.if-not-push.ensures.rows (c.in-ok-row.ensures ∙ (λ i. (key i, value i)))
+    let key = c.as_slice.ensures.value in
+    let value = c.as_slice-in-loop-row.ensures.value in
+    fill_more leaf_row leaf_asked (rows_of l.table) c.args.rows.now l.row-index l.invariant (rows_of c.push.new.self) c.in_ok-row.row c.row-item.result c.loop-row-test.true c.row-item.is c.if-not-push.ensures.rows (c.in_ok-row.ensures ∙ (λ i. (key i, value i)))
 
 pub returns : goal.returns
 returns c =

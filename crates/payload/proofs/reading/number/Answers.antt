@@ -11,6 +11,6 @@ whole w h = ap (λ (t : Bool). drop (cond t 1 0) w) (ne_eqb (get_or w 0 0) 43 h)
 pub returns-in-Ok : goal.returns-in-Ok
 returns-in-Ok c =
     let w = c.args.word.now in
-    let other = starts_char 43 w false c.if-starts-with.ensures.cases (lit< tt) (lit< tt) in
+    let other = starts_char 43 w false c.if-starts_with.ensures.cases (lit< tt) (lit< tt) in
     let e = whole w (λ plus. let never = other.1 plus in let z : ◌≡◌ {A = ℕ} 0 1 = cc in omega arith) in
     subst (λ (t : List ℕ). (IsNumeral 10 t × (digits_value 10 t < 2 ^ 64)) × (c.in-Ok.n ≡ digits_value 10 t)) e c.in-Ok.ensures.value.0

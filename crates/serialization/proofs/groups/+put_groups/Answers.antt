@@ -18,8 +18,8 @@ bounds-out-at-else-n-lt128 t c =
     let l = ap length k.2 in
     omega arith
 
-pub put-groups-requires : goal.put-groups-requires
-put-groups-requires t c =
+pub put_groups-requires : goal.put_groups-requires
+put_groups-requires t c =
     let k = tail-limit c.args.more c.args.n c.if-n-lt128.false c.requires.0 in
     let l = ap length k.2 in
     (search rules, (k.1, simp length-set (omega arith)))
@@ -28,4 +28,4 @@ pub returns-else-n-lt128 : goal.returns-else-n-lt128
 returns-else-n-lt128 t c =
     let k = tail-limit c.args.more c.args.n c.if-n-lt128.false c.requires.0 in
     let l = ap length k.2 in
-    wrote_as (sym k.2) (wrote_then (wrote_one c.args.at _ c.args.out.now (omega arith)) (omega arith) c.put-groups.ensures)
+    wrote_as (sym k.2) (wrote_then (wrote_one c.args.at _ c.args.out.now (omega arith)) (omega arith) c.put_groups.ensures)

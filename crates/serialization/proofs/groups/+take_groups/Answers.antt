@@ -12,8 +12,8 @@ use Rattle.serialization.specs.Numbering.{limit_le, limit-more}
 use Rattle.serialization.proofs.Reading.{stops_then, parse-end, parse-last, parse_past, parse-one, parse-next}
 use Rattle.serialization.proofs.groups.+take_groups.Goals as goal
 
-pub returns-in-default : goal.returns-in-default
-returns-in-default t c =
+pub returns-in_default : goal.returns-in_default
+returns-in_default t c =
     record { takes = ap (parse_groups c.args.more) (nil_from_length c.args.buf.now.now (search rules)) ∙ parse-end c.args.more; below = tt }
 
 pub returns-then-low-lt2 : goal.returns-then-low-lt2
@@ -32,12 +32,12 @@ returns-then-low-lt128 t c =
     let l : 256 ≤ limit c.args.more = limit_le 1 c.args.more (omega arith) in
     record { takes = ap (parse_groups c.args.more) (first_rest bs 0 (search rules)) ∙ parse-one c.args.more (get_or bs 0 0) (between 1 (length bs) bs) (omega arith) h; below = omega arith }
 
-pub returns-in-err-high : goal.returns-in-err-high
-returns-in-err-high t c =
+pub returns-in_err-high : goal.returns-in_err-high
+returns-in_err-high t c =
     let bs = c.args.buf.now.now in
-    let p = err_from_is_err_and c.from-residual.result c.from-residual.ensures.1 in
+    let p = err_from_is_err_and c.from_residual.result c.from_residual.ensures.1 in
     let e = ap (parse_groups c.args.more) (first_rest bs 0 (search rules)) ∙ parse-next c.args.more (get_or bs 0 0) (between 1 (length bs) bs) (omega arith) c.if-low-lt128.false (omega arith) in
-    rw (p.1, p.2) (record { takes = subst (λ (q : Parsed ℕ). Stops q c.in-err-high.field-0.0) (sym e) (stops_then (parse_groups (c.args.more - 1) (between 1 (length bs) bs)) _ c.in-err-high.field-0.0 c.in-err-high.ensures.takes); below = tt })
+    rw (p.1, p.2) (record { takes = subst (λ (q : Parsed ℕ). Stops q c.in_err-high.field-0.0) (sym e) (stops_then (parse_groups (c.args.more - 1) (between 1 (length bs) bs)) _ c.in_err-high.field-0.0 c.in_err-high.ensures.takes); below = tt })
 
 -- the groups after the first one have been read
 joined : (m b n : ℕ) (bs rest after : List ℕ) (t : Bool) → bs ≡ b ∷ rest → 0 < m → 128 ≤ b → b < 256 → parse_groups (m - 1) rest ≡ read n after → eqb n 0 ≡ t → parse_groups m bs ≡ cond t (fault BadNumber) (read (b - 128 + 128 * n) after)
@@ -47,26 +47,26 @@ joined m b n bs rest after t cut l h k p e =
 pub returns-then-high-eq0 : goal.returns-then-high-eq0
 returns-then-high-eq0 t c =
     let bs = c.args.buf.now.now in
-    let n = c.in-ok-high.high in
-    record { takes = joined c.args.more (get_or bs 0 0) n bs (between 1 (length bs) bs) c.take-groups.new.buf.now true (first_rest bs 0 (search rules)) (omega arith) c.if-low-lt128.false (omega arith) c.in-ok-high.ensures.takes (eq-eqb n 0 c.if-high-eq0.true); below = tt }
+    let n = c.in_ok-high.high in
+    record { takes = joined c.args.more (get_or bs 0 0) n bs (between 1 (length bs) bs) c.take_groups.new.buf.now true (first_rest bs 0 (search rules)) (omega arith) c.if-low-lt128.false (omega arith) c.in_ok-high.ensures.takes (eq-eqb n 0 c.if-high-eq0.true); below = tt }
 
-pub overflow-mul-result : goal.overflow-mul-result
-overflow-mul-result t c =
+pub overflow_mul-result : goal.overflow_mul-result
+overflow_mul-result t c =
     let l = limit_le (c.args.more - 1) 8 (omega arith) in
-    omega (arith, c.in-ok-high.ensures.below)
+    omega (arith, c.in_ok-high.ensures.below)
 
-pub overflow-add-result : goal.overflow-add-result
-overflow-add-result t c =
+pub overflow_add-result : goal.overflow_add-result
+overflow_add-result t c =
     let l = limit_le (c.args.more - 1) 8 (omega arith) in
-    omega (arith, c.in-ok-high.ensures.below)
+    omega (arith, c.in_ok-high.ensures.below)
 
 pub returns : goal.returns
 returns t c =
     let bs = c.args.buf.now.now in
-    let n = c.in-ok-high.high in
+    let n = c.in_ok-high.high in
     let z : n ≡ 0 → ⊥ = λ e. omega arith in
     let l = limit-more c.args.more (omega arith) in
     record {
-      takes = joined c.args.more (get_or bs 0 0) n bs (between 1 (length bs) bs) c.take-groups.new.buf.now false (first_rest bs 0 (search rules)) (omega arith) c.if-low-lt128.false (omega arith) c.in-ok-high.ensures.takes (ne_eqb n 0 z);
-      below = omega (arith, c.in-ok-high.ensures.below);
+      takes = joined c.args.more (get_or bs 0 0) n bs (between 1 (length bs) bs) c.take_groups.new.buf.now false (first_rest bs 0 (search rules)) (omega arith) c.if-low-lt128.false (omega arith) c.in_ok-high.ensures.takes (ne_eqb n 0 z);
+      below = omega (arith, c.in_ok-high.ensures.below);
     }

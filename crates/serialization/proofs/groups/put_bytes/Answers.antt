@@ -9,4 +9,4 @@ returns c =
     let bs = c.args.bytes.now in
     let k : at + length bs - at ≡ length bs = omega arith in
     let d = drop-drop (at + length bs - at) at out ∙ ap (λ n. drop (at + n) out) k in
-    record { ends = refl; bytes = λ i. take at out ++ (c.copy-from-slice.ensures.after i ++ d i) }
+    record { ends = refl; bytes = λ i. take at out ++ (c.copy_from_slice.ensures.after i ++ d i) }

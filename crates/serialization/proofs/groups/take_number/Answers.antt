@@ -3,4 +3,4 @@ use Rattle.serialization.proofs.groups.take_number.Goals as goal
 
 pub returns : goal.returns
 unfolding parse_number
-returns c = c.take-groups.ensures.takes
+returns c = c.take_groups.ensures.takes

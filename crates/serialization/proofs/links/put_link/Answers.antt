@@ -12,14 +12,14 @@ use Rattle.serialization.proofs.links.put_link.Goals as goal
 fits_by : (l k : Link) → l ≡ k → FitsLink (link_of k) → FitsLink (link_of l)
 fits_by l k e h = subst (λ (x : Link). FitsLink (link_of x)) (sym e) h
 
-pub put-number-requires : goal.put-number-requires
-put-number-requires c = let l = length-number c.in-ParentMergeIntention.page in omega arith
+pub put_number-requires : goal.put_number-requires
+put_number-requires c = let l = length-number c.in-ParentMergeIntention.page in omega arith
 
 pub returns-in-Set : goal.returns-in-Set
 returns-in-Set c =
     let e = ap (λ l. link_bytes (link_of l)) c.in-Set.is in
     record {
-      wrote = wrote_as (sym e) (wrote_then c.put-byte-mid.ensures (omega arith) c.put.ensures.wrote);
+      wrote = wrote_as (sym e) (wrote_then c.put_byte-mid.ensures (omega arith) c.put.ensures.wrote);
       bound = omega arith;
       fits = fits_by _ _ c.in-Set.is (string_fits c.in-Set.key, string_fits c.in-Set.value);
     }
@@ -28,7 +28,7 @@ pub returns-in-Del : goal.returns-in-Del
 returns-in-Del c =
     let e = ap (λ l. link_bytes (link_of l)) c.in-Del.is in
     record {
-      wrote = wrote_as (sym e) (wrote_then c.put-byte-mid-in-Del.ensures (omega arith) c.put-string.ensures.wrote);
+      wrote = wrote_as (sym e) (wrote_then c.put_byte-mid-in-Del.ensures (omega arith) c.put_string.ensures.wrote);
       bound = omega arith;
       fits = fits_by _ _ c.in-Del.is (string_fits c.in-Del.key);
     }
@@ -38,7 +38,7 @@ returns-in-ParentMergeIntention c =
     let l = length-number c.in-ParentMergeIntention.page in
     let e = ap (λ l. link_bytes (link_of l)) c.in-ParentMergeIntention.is in
     record {
-      wrote = wrote_as (sym e) (wrote_then c.put-byte-mid-in-ParentMergeIntention.ensures (omega arith) c.put-number.ensures.wrote);
+      wrote = wrote_as (sym e) (wrote_then c.put_byte-mid-in-ParentMergeIntention.ensures (omega arith) c.put_number.ensures.wrote);
       bound = omega arith;
-      fits = fits_by _ _ c.in-ParentMergeIntention.is c.put-number.ensures.fits;
+      fits = fits_by _ _ c.in-ParentMergeIntention.is c.put_number.ensures.fits;
     }

@@ -6,11 +6,11 @@ use Rattle.serialization.specs.Numbering.{number_small}
 use Rattle.serialization.proofs.Writing.{wrote_then, wrote_none, wrote_as, each_push}
 use Rattle.serialization.proofs.lists.put_rows.Goals as goal
 
-pub put-number-end-requires : goal.put-number-end-requires
-put-number-end-requires g c = let s = ap length (number_small (length c.args.rows.now) c.requires.0) in omega arith
+pub put_number-end-requires : goal.put_number-end-requires
+put_number-end-requires g c = let s = ap length (number_small (length c.args.rows.now) c.requires.0) in omega arith
 
 pub loop-row-init : goal.loop-row-init
-loop-row-init g c = (wrote_none c.put-number-end.result c.put-number-end.new.out, omega arith)
+loop-row-init g c = (wrote_none c.put_number-end.result c.put_number-end.new.out, omega arith)
 
 pub loop-row-preserved : goal.loop-row-preserved
 loop-row-preserved g c =
@@ -34,4 +34,4 @@ returns g c =
     let m = g.R.RowBytes.meaning in
     let rows = c.args.rows.now in
     let e : number (length rows) ++ each f (map m (take l.row-index rows)) ≡ list_bytes f (map m rows) = (λ i. number (sym (length-map rows m) i) ++ each f (map m (take_all l.row-index rows c.loop-row-test.false i))) in
-    record { wrote = wrote_as e (wrote_then c.put-number-end.ensures.wrote (omega arith) l.invariant.0); bound = omega arith }
+    record { wrote = wrote_as e (wrote_then c.put_number-end.ensures.wrote (omega arith) l.invariant.0); bound = omega arith }

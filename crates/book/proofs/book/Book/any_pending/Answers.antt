@@ -21,4 +21,4 @@ returns c =
     let l = b.heads.ok.0 in
     let n : c.len-n.result ≡ length (heads_of b) = omega arith in
     let some : 0 < length (heads_of b) = omega arith in
-    c.is-pending.ensures ∙ ap (λ (y : Head). is_pending (state_of y.status)) (c.index.ensures ∙ ap (λ (k : ℕ). get_or (heads_of b) (k - 1) x) n) ∙ sym (calm-last (mem_of b) (heads_of b) x b.last some)
+    c.is_pending.ensures ∙ ap (λ (y : Head). is_pending (state_of y.status)) (c.index.ensures ∙ ap (λ (k : ℕ). get_or (heads_of b) (k - 1) x) n) ∙ sym (calm-last (mem_of b) (heads_of b) x b.last some)

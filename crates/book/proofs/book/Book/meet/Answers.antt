@@ -9,14 +9,14 @@ use Rattle.book.specs.Books.{heads_of, mem_of}
 use Rattle.book.proofs.Headers.{ranked_restated, calm_restated, met-calm}
 use Rattle.book.proofs.book.Book.meet.Goals as goal
 
-pub invariant-of-self : goal.invariant-of-self
-invariant-of-self c =
+pub invariant_of-self : goal.invariant_of-self
+invariant_of-self c =
     let b = c.args.self.now in
-    let x = c.index-mut.result.now in (
+    let x = c.index_mut.result.now in (
       b.first,
       (
-        ranked_restated b.next (length (mem_of b)) (heads_of b) c.args.i x c.meet.new.self c.index-mut.ensures.value b.ranks,
-        (calm_restated (heads_of b) c.args.i x c.meet.new.self c.index-mut.ensures.value (λ h. rw c.meet.ensures (met-calm x.status c.args.event h)) b.last, tt),
+        ranked_restated b.next (length (mem_of b)) (heads_of b) c.args.i x c.meet.new.self c.index_mut.ensures.value b.ranks,
+        (calm_restated (heads_of b) c.args.i x c.meet.new.self c.index_mut.ensures.value (λ h. rw c.meet.ensures (met-calm x.status c.args.event h)) b.last, tt),
       ),
     )
 
@@ -24,8 +24,8 @@ pub returns : goal.returns
 returns c = λ d.
     let hs = heads_of c.args.self.now in
     let i = c.args.i in
-    let x = c.index-mut.result.now in
-    let is = λ (e : Head). get_or_read hs i x (search rules) c.index-mut.ensures.value e in
+    let x = c.index_mut.result.now in
+    let is = λ (e : Head). get_or_read hs i x (search rules) c.index_mut.ensures.value e in
     record {
       number = refl;
       stable = refl;

@@ -1,4 +1,4 @@
-use Rattle.std.proofs.Common.{◌≡◌, ℕ, ◌<◌, length, get_or, set, replicate, sym, ap, ◌∙◌, arith}
+use Rattle.std.proofs.Common.{ℕ, ◌<◌, length, get_or, set, replicate, ap, ◌∙◌, arith}
 use lib.ListN.{length-replicate}
 use Rattle.bounded.proofs.Shifts.{over-more}
 use Rattle.bounded.proofs.Same.{filled}
@@ -12,10 +12,10 @@ loop-i-preserved g c =
     let m : l.i < length (replicate {A = ℕ} g.row.N 0) = omega arith in
     (omega arith, ap (λ b. set b l.i (get_or s l.i 0)) l.invariant.1 ∙ over-more s (replicate g.row.N 0) l.i 0 c.loop-i-test.true m)
 
-pub invariant-of-result : goal.invariant-of-result
-invariant-of-result g c =
+pub invariant_of-result : goal.invariant_of-result
+invariant_of-result g c =
     let f = filled c.args.s.now c.loop-i.bytes g.row.N c.loop-i.i c.if-s.false (omega arith) c.loop-i.invariant.1 in
-    (f.0, (c.if-s.false, (f.1, tt)))
+    record { room = f.0; few = c.if-s.false; clean = f.1 }
 
 pub returns : goal.returns
 returns g c = ((filled c.args.s.now c.loop-i.bytes g.row.N c.loop-i.i c.if-s.false (omega arith) c.loop-i.invariant.1).2, omega arith)

@@ -15,5 +15,5 @@ returns g c =
       rows = ap (take _) c.open.ensures.after ∙ take-over (insert t.rows c.args.i c.args.x) t.rows (t.len + 1) (omega arith) ∙ ap (λ n. take n (insert t.rows c.args.i c.args.x)) (add-one t.len) ∙ take-insert t.rows t.len c.args.i c.args.x c.if-i-self.false (omega arith);
     }
 
-pub invariant-of-self : goal.invariant-of-self
-invariant-of-self g c = (c.open.ensures.len, (omega arith, tt))
+pub invariant_of-self : goal.invariant_of-self
+invariant_of-self g c = record { room = c.open.ensures.len; few = omega arith }

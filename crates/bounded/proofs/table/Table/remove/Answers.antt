@@ -1,4 +1,4 @@
-use Rattle.std.proofs.Common.{◌≡◌, suc, ◌-◌, take, sym, refl, ap, ◌∙◌, arith}
+use Rattle.std.proofs.Common.{◌≡◌, suc, ◌-◌, take, sym, ap, ◌∙◌, arith}
 use Rattle.std.specs.List.{remove}
 use Rattle.std.proofs.lemmas.List.{length-take-le}
 use Rattle.std.proofs.lemmas.List.Edits.{length-remove}
@@ -17,5 +17,5 @@ returns g c =
       rows = ap (take _) c.close.ensures.after ∙ take-over (remove t.rows c.args.i) t.rows (t.len - 1) (omega arith) ∙ take-remove t.rows (t.len - 1) c.args.i (omega arith) (omega arith) ∙ ap (λ n. remove (take n t.rows) c.args.i) k;
     }
 
-pub invariant-of-self : goal.invariant-of-self
-invariant-of-self g c = (c.close.ensures.len, (omega arith, tt))
+pub invariant_of-self : goal.invariant_of-self
+invariant_of-self g c = record { room = c.close.ensures.len; few = omega arith }

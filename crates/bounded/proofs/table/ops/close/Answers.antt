@@ -1,4 +1,4 @@
-use Rattle.std.proofs.Common.{◌≡◌, ◌-◌, sym, refl, ap, ◌∙◌, arith, length-set}
+use Rattle.std.proofs.Common.{◌≡◌, ◌-◌, refl, ap, ◌∙◌, arith, length-set}
 use Rattle.std.specs.List.{remove}
 use Rattle.bounded.specs.Rows.{over}
 use Rattle.bounded.proofs.Shifts.{close_start, close_step}

@@ -7,10 +7,10 @@ use Rattle.node.specs.Meanings.{root_row}
 use Rattle.node.proofs.Tables.{row_order}
 use Rattle.node.proofs.meta.Meta.new.Goals as goal
 
-pub returns-then-not-is-rising : goal.returns-then-not-is-rising
-returns-then-not-is-rising c =
-    (refl, sym (map-rising root_row by_key (rows_of c.args.roots)) ∙ ap (rising (row_order root_row)) (sym c.as-slice.ensures) ∙ sym c.is-rising.ensures ∙ c.if-not-is-rising.true)
+pub returns-then-not-is_rising : goal.returns-then-not-is_rising
+returns-then-not-is_rising c =
+    (refl, sym (map-rising root_row by_key (rows_of c.args.roots)) ∙ ap (rising (row_order root_row)) (sym c.as_slice.ensures) ∙ sym c.is_rising.ensures ∙ c.if-not-is_rising.true)
 
-pub invariant-of-result : goal.invariant-of-result
-invariant-of-result c =
-    (sym (map-rising root_row by_key (rows_of c.args.roots)) ∙ ap (rising (row_order root_row)) (sym c.as-slice.ensures) ∙ sym c.is-rising.ensures ∙ c.if-not-is-rising.false, tt)
+pub invariant_of-result : goal.invariant_of-result
+invariant_of-result c =
+    (sym (map-rising root_row by_key (rows_of c.args.roots)) ∙ ap (rising (row_order root_row)) (sym c.as_slice.ensures) ∙ sym c.is_rising.ensures ∙ c.if-not-is_rising.false, tt)

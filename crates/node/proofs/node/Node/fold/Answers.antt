@@ -15,12 +15,12 @@ step c links i link d l is e =
 
 pub loop-link-preserved : goal.loop-link-preserved
 loop-link-preserved c =
-    sym (step (node_of c.loop-link.node) c.args.links.now c.loop-link.link-index c.link-item.result _ c.loop-link-test.true c.link-item.is c.in-ok-apply.ensures) ∙ c.loop-link.invariant
+    sym (step (node_of c.loop-link.node) c.args.links.now c.loop-link.link-index c.link-item.result _ c.loop-link-test.true c.link-item.is c.in_ok-apply.ensures) ∙ c.loop-link.invariant
 
-pub returns-in-err-apply : goal.returns-in-err-apply
-returns-in-err-apply c =
-    let p = err_from_is_err_and c.from-residual.result c.from-residual.ensures.1 in
-    rw (p.1, p.2) (sym c.loop-link.invariant ∙ step (node_of c.loop-link.node) c.args.links.now c.loop-link.link-index c.link-item.result _ c.loop-link-test.true c.link-item.is c.in-err-apply.ensures.0)
+pub returns-in_err-apply : goal.returns-in_err-apply
+returns-in_err-apply c =
+    let p = err_from_is_err_and c.from_residual.result c.from_residual.ensures.1 in
+    rw (p.1, p.2) (sym c.loop-link.invariant ∙ step (node_of c.loop-link.node) c.args.links.now c.loop-link.link-index c.link-item.result _ c.loop-link-test.true c.link-item.is c.in_err-apply.ensures.0)
 
 pub returns : goal.returns
 returns c = sym c.loop-link.invariant ∙ ap (λ r. folded (node_of c.loop-link.node) (map link_of r)) (drop_all c.loop-link.link-index c.args.links.now c.loop-link-test.false)

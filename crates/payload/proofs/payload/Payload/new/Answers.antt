@@ -8,4 +8,4 @@ front n bs rest all e h = ap (λ m. take m all) e ∙ ap (take (length bs)) h �
 pub returns : goal.returns
 returns g c =
     let w = c.in-Ok.ensures.writes in
-    front c.in-Ok.len (g.S.Serialize.bytes (g.S.Serialize.value c.args.value.now)) _ c.serialize-into.new.buf w.0 w.3
+    front c.in-Ok.len (g.S.Serialize.bytes (g.S.Serialize.value c.args.value.now)) _ c.serialize_into.new.buf w.0 w.3

@@ -4,13 +4,13 @@ use Rattle.segmented.specs.Layout.{free_seg, some_below}
 use Rattle.segmented.proofs.Laying.{below_more, Below_yes}
 use Rattle.segmented.proofs.segmented.Segmented.free_segment.Goals as goal
 
-pub returns-then-seg-free : goal.returns-then-seg-free
-returns-then-seg-free c =
-    let p = sym c.seg-free.ensures ∙ c.if-seg-free.true in
+pub returns-then-seg_free : goal.returns-then-seg_free
+returns-then-seg_free c =
+    let p = sym c.seg_free.ensures ∙ c.if-seg_free.true in
     (c.loop-q-test.true, p, Below_yes (free_seg c.args.self.now.active (heads_of c.args.self.now.book)) c.args.self.now.segs c.loop-q.q c.loop-q-test.true p)
 
 pub loop-q-preserved : goal.loop-q-preserved
-loop-q-preserved c = below_more (free_seg c.args.self.now.active (heads_of c.args.self.now.book)) c.loop-q.q c.loop-q.invariant (sym c.seg-free.ensures ∙ c.if-seg-free.false)
+loop-q-preserved c = below_more (free_seg c.args.self.now.active (heads_of c.args.self.now.book)) c.loop-q.q c.loop-q.invariant (sym c.seg_free.ensures ∙ c.if-seg_free.false)
 
 pub returns : goal.returns
 returns c =

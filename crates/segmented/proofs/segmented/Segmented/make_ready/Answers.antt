@@ -5,8 +5,8 @@ use Rattle.segmented.proofs.Kept.{open_keeps}
 use Rattle.segmented.proofs.Putting.{prepared_here, prepared_open, ready-here, ready_open}
 use Rattle.segmented.proofs.segmented.Segmented.make_ready.Goals as goal
 
-pub invariant-of-self : goal.invariant-of-self
-invariant-of-self c =
+pub invariant_of-self : goal.invariant_of-self
+invariant_of-self c =
     let a = c.in-Some.ensures in
     open_keeps c.args.self.now c.compact.new.self c.compact.ensures c.in-Some.q a.0 a.1
 

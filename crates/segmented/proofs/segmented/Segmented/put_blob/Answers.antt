@@ -14,8 +14,8 @@ append-r-requires c =
     let i = c.args.i in
     over-ready s c.overwrite.new.self _ bytes 32 c.overwrite.ensures (blob-room s i (length bytes) c.requires.1.1.0 c.requires.1.0) (blob_apart s i (length bytes) c.requires.1.0 c.requires.1.1.1) c.requires.0 c.requires.1.0
 
-pub invariant-of-self : goal.invariant-of-self
-invariant-of-self c =
+pub invariant_of-self : goal.invariant_of-self
+invariant_of-self c =
     let s = c.args.self.now in
     let bytes = c.args.payload.now in
     let h = c.requires.0 in

@@ -15,8 +15,8 @@ append-r-requires c =
     let m = c.requires.1 in
     over-ready s c.overwrite.new.self _ bytes _ c.overwrite.ensures (inline_room s (length bytes) h) (inline_apart s (length bytes) h) h (omega arith)
 
-pub invariant-of-self : goal.invariant-of-self
-invariant-of-self c =
+pub invariant_of-self : goal.invariant_of-self
+invariant_of-self c =
     let s = c.args.self.now in
     let bytes = c.args.payload.now in
     let h = c.requires.0 in

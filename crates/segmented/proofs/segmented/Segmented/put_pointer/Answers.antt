@@ -10,8 +10,8 @@ append-r-requires c =
     let h = c.requires.0 in
     record { quiet = h.quiet; room = h.room; within = blob-room s c.args.i c.args.len c.requires.1.1 c.requires.1.0; small = c.requires.1.0; low = h.low }
 
-pub invariant-of-self : goal.invariant-of-self
-invariant-of-self c =
+pub invariant_of-self : goal.invariant_of-self
+invariant_of-self c =
     let s = c.args.self.now in
     let h = c.requires.0 in
     let a = c.append-r.ensures in

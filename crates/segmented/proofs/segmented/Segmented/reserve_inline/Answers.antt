@@ -9,6 +9,6 @@ pub returns : goal.returns
 returns c =
     let s = c.args.self.now in
     let n = length c.args.payload.now in
-    let a = c.if-not-make-ready.ensures in
+    let a = c.if-not-make_ready.ensures in
     let h = c.requires.1 in
-    reserved s c.make-ready.new.self c.put-inline-r.new.self c.args.pid c.args.kind c.args.payload.now (32 + n) (seg_fits s.segs s.slots s.active s.fill s.book n) c.put-inline-r.result c.requires.0 (fits_inline s.segs s.slots s.active s.fill s.book n true h a.1) (omega arith) a.0 c.put-inline-r.ensures
+    reserved s c.make_ready.new.self c.put_inline-r.new.self c.args.pid c.args.kind c.args.payload.now (32 + n) (seg_fits s.segs s.slots s.active s.fill s.book n) c.put_inline-r.result c.requires.0 (fits_inline s.segs s.slots s.active s.fill s.book n true h a.1) (omega arith) a.0 c.put_inline-r.ensures

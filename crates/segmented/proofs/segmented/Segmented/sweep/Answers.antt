@@ -2,8 +2,8 @@ use Rattle.std.proofs.Common.{refl}
 use Rattle.segmented.proofs.Kept.{lives_keeps}
 use Rattle.segmented.proofs.segmented.Segmented.sweep.Goals as goal
 
-pub invariant-of-self : goal.invariant-of-self
-invariant-of-self c = lives_keeps c.args.self.now c.compact.new.self c.compact.ensures
+pub invariant_of-self : goal.invariant_of-self
+invariant_of-self c = lives_keeps c.args.self.now c.compact.new.self c.compact.ensures
 
 pub returns : goal.returns
 returns c = record { book = c.compact.ensures; segs = refl; slots = refl; fill = refl }

@@ -4,8 +4,8 @@ use Rattle.segmented.specs.Segments.{seg_fits, ready}
 use Rattle.segmented.proofs.Kept.{kin_keeps}
 use Rattle.segmented.proofs.segmenting.SegmentedLog.abort.Goals as goal
 
-pub invariant-of-self : goal.invariant-of-self
-invariant-of-self c =
+pub invariant_of-self : goal.invariant_of-self
+invariant_of-self c =
     let s = c.args.self.now in
     kin_keeps s c.settle.new.self (settle-kin s.book c.settle.new.self c.args.reservation Abort c.settle.result c.settle.ensures)
 

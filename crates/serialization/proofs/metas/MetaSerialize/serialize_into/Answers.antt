@@ -12,6 +12,6 @@ returns c =
     let few = few-rows m.roots in
     let l = ap length c.roots.ensures in
     record {
-      writes = wrote_front (wrote_as (ap (λ rows. meta_bytes (roots_of rows)) c.roots.ensures) c.put-rows.ensures.wrote) (omega arith) c.if-buf-lt-PAYLOAD.false;
+      writes = wrote_front (wrote_as (ap (λ rows. meta_bytes (roots_of rows)) c.roots.ensures) c.put_rows.ensures.wrote) (omega arith) c.if-buf-lt-PAYLOAD.false;
       fits = meta_fits m;
     }

@@ -11,6 +11,6 @@ pub returns : goal.returns
 returns c =
     let e = c.parts.ensures in
     record {
-      writes = wrote_front (wrote_as (ap (λ p. node_bytes (parts_of p)) e) c.put-parts.ensures.wrote) c.put-parts.ensures.bound c.if-buf-lt-PAYLOAD.false;
-      fits = node-fits c.args.self.now (subst (λ (p : NodeParts). FitsPage (parts_of p).next) e c.put-parts.ensures.next) (subst (λ (p : NodeParts). FitsPage (parts_of p).child) e c.put-parts.ensures.child);
+      writes = wrote_front (wrote_as (ap (λ p. node_bytes (parts_of p)) e) c.put_parts.ensures.wrote) c.put_parts.ensures.bound c.if-buf-lt-PAYLOAD.false;
+      fits = node-fits c.args.self.now (subst (λ (p : NodeParts). FitsPage (parts_of p).next) e c.put_parts.ensures.next) (subst (λ (p : NodeParts). FitsPage (parts_of p).child) e c.put_parts.ensures.child);
     }

@@ -5,8 +5,8 @@ use Rattle.tape.specs.Tapes.{tape_fits}
 use Rattle.tape.proofs.Tapes.{kin_keeps}
 use Rattle.tape.proofs.taping.TapeLog.abort.Goals as goal
 
-pub invariant-of-self : goal.invariant-of-self
-invariant-of-self c =
+pub invariant_of-self : goal.invariant_of-self
+invariant_of-self c =
     let t = c.args.self.now in
     kin_keeps t.room (settle-kin t.book c.settle.new.self c.args.reservation Abort c.settle.result c.settle.ensures) (t.plain, (t.short, (t.used, (t.wide, (t.deep, tt)))))
 

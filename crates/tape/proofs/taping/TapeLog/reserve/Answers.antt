@@ -12,15 +12,15 @@ append-reservation-requires c =
     let bytes = c.args.payload.now in
     let f = fitting t.room t.book (length bytes) (sym c.fits.ensures ∙ c.if-not-fits.false) in
     let w : c.len-at.result ≡ length (mem_of t.book) = search rules in
-    ready t.room t.book c.extend.new.self bytes f (t.plain, (t.short, (t.used, (t.wide, (t.deep, tt))))) c.extend.ensures (sym c.any-pending.ensures ∙ c.if-any-pending.false) c.len-at.result w
+    ready t.room t.book c.extend.new.self bytes f (t.plain, (t.short, (t.used, (t.wide, (t.deep, tt))))) c.extend.ensures (sym c.any_pending.ensures ∙ c.if-any_pending.false) c.len-at.result w
 
-pub invariant-of-self : goal.invariant-of-self
-invariant-of-self c =
+pub invariant_of-self : goal.invariant_of-self
+invariant_of-self c =
     let t = c.args.self.now in
     let bytes = c.args.payload.now in
     let f = fitting t.room t.book (length bytes) (sym c.fits.ensures ∙ c.if-not-fits.false) in
     let w : c.len-at.result ≡ length (mem_of t.book) = search rules in
-    keeps_on t.room t.book c.extend.new.self bytes f (t.plain, (t.short, (t.used, (t.wide, (t.deep, tt))))) c.extend.ensures (sym c.any-pending.ensures ∙ c.if-any-pending.false) c.len-at.result w c.append-reservation.new.self c.args.pid c.args.kind (Inline _) c.append-reservation.result refl c.append-reservation.ensures
+    keeps_on t.room t.book c.extend.new.self bytes f (t.plain, (t.short, (t.used, (t.wide, (t.deep, tt))))) c.extend.ensures (sym c.any_pending.ensures ∙ c.if-any_pending.false) c.len-at.result w c.append-reservation.new.self c.args.pid c.args.kind (Inline _) c.append-reservation.result refl c.append-reservation.ensures
 
 pub returns : goal.returns
 returns c =
@@ -30,4 +30,4 @@ returns c =
     let f = fitting t.room t.book (length bytes) e in
     let w : c.len-at.result ≡ length (mem_of t.book) = search rules in
     tape_reserved (tape_fits t.room) (λ _. false) t.book c.extend.new.self c.append-reservation.new.self c.args.pid c.args.kind bytes (Inline _) c.append-reservation.result c.len-at.result w c.extend.ensures c.append-reservation.ensures
-    (tape_fits t.room t.book (length bytes)) (sym c.any-pending.ensures ∙ c.if-any-pending.false) e f.next f.small
+    (tape_fits t.room t.book (length bytes)) (sym c.any_pending.ensures ∙ c.if-any_pending.false) e f.next f.small

@@ -4,12 +4,12 @@ use Rattle.tape.specs.Tapes.{tape_fits}
 use Rattle.tape.proofs.Tapes.{kin_keeps}
 use Rattle.tape.proofs.taping.TapeLog.sa_mark_replace.Goals as goal
 
-pub invariant-of-self : goal.invariant-of-self
-invariant-of-self c =
+pub invariant_of-self : goal.invariant_of-self
+invariant_of-self c =
     let t = c.args.self.now in
     kin_keeps t.room c.mark.ensures.kin (t.plain, (t.short, (t.used, (t.wide, (t.deep, tt)))))
 
 pub returns : goal.returns
 returns c =
     let t = c.args.self.now in
-    on-mark (tape_fits t.room) (λ _. false) t.book c.mark.new.self c.args.pid c.args.old-cache-infos.now c.mark.ensures
+    on-mark (tape_fits t.room) (λ _. false) t.book c.mark.new.self c.args.pid c.args.old_cache_infos.now c.mark.ensures
