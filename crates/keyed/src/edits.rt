@@ -16,7 +16,7 @@ pub fn set_row<R: Keyed + Copy, const N: usize>(
     table: &mut Table<R, N>,
     row: R,
 ) -> Result<Option<R>, TableFull>
-    ensures { rising (between R.Key.Order.order key_of) (rows_of table.old) ≡ true → Put (between R.Key.Order.order key_of) row N (rows_of table.old) (rows_of table.new) result }
+    ensures { rising (between R.Key.Order.order R.key_of) (rows_of table.old) ≡ true → Put (between R.Key.Order.order R.key_of) row N (rows_of table.old) (rows_of table.new) result }
 {
     match seek(table.as_slice(), row.key()) {
         Ok(i) => {
@@ -39,7 +39,7 @@ pub fn remove_row<R: Keyed + Copy, const N: usize>(
     table: &mut Table<R, N>,
     key: &R::Key,
 ) -> Option<R>
-    ensures { rising (between R.Key.Order.order key_of) (rows_of table.old) ≡ true → Removed (between R.Key.Order.order key_of) (probe R.Key.Order.order key_of key.now) (rows_of table.old) (rows_of table.new) result }
+    ensures { rising (between R.Key.Order.order R.key_of) (rows_of table.old) ≡ true → Removed (between R.Key.Order.order R.key_of) (probe R.Key.Order.order R.key_of key.now) (rows_of table.old) (rows_of table.new) result }
 {
     match seek(table.as_slice(), key) {
         Ok(i) => {

@@ -8,7 +8,7 @@ use std::cmp::Ordering;
 
 // Whether each key is below the next.
 pub fn is_rising<R: Keyed>(rows: &[R]) -> bool
-    ensures { result ≡ rising (between R.Key.Order.order key_of) rows.now }
+    ensures { result ≡ rising (between R.Key.Order.order R.key_of) rows.now }
 {
     for i in 1..rows.len() {
         match rows[i - 1].key().compare(rows[i].key()) {
@@ -22,7 +22,7 @@ pub fn is_rising<R: Keyed>(rows: &[R]) -> bool
 // The place of the row that has the key, or the place where it would stand.
 pub fn seek<R: Keyed>(rows: &[R], key: &R::Key) -> Result<usize, usize>
     ensures within { MatchResult result (λ i. i < length rows.now) (λ i. i ≤ length rows.now) }
-    ensures found { rising (between R.Key.Order.order key_of) rows.now ≡ true → Searched (probe R.Key.Order.order key_of key.now) rows.now result }
+    ensures found { rising (between R.Key.Order.order R.key_of) rows.now ≡ true → Searched (probe R.Key.Order.order R.key_of key.now) rows.now result }
 {
     let mut low = 0;
     let mut high = rows.len();
@@ -39,7 +39,7 @@ pub fn seek<R: Keyed>(rows: &[R], key: &R::Key) -> Result<usize, usize>
 
 // The row that has the key.
 pub fn find_row<'a, R: Keyed>(rows: &'a [R], key: &R::Key) -> Option<&'a R>
-    ensures { rising (between R.Key.Order.order key_of) rows.now ≡ true → option_map (λ x. x.now) result ≡ lookup (probe R.Key.Order.order key_of key.now) rows.now }
+    ensures { rising (between R.Key.Order.order R.key_of) rows.now ≡ true → option_map (λ x. x.now) result ≡ lookup (probe R.Key.Order.order R.key_of key.now) rows.now }
 {
     match seek(rows, key) {
         Ok(i) => Some(&rows[i]),

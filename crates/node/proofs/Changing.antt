@@ -3,7 +3,7 @@ use Rattle.std.proofs.Common.{◌≡◌, ℕ, ◌^◌, ◌<◌, Bool, true, fals
 use Rattle.std.specs.List.{remove}
 use Rattle.std.specs.Option.{option_map}
 use Rattle.std.proofs.lemmas.Bool.{cond-true, lt-ltb}
-use Rattle.fault.specs.declared.node_fault.NodeFault.TheVariants.{WrongKind, Full, NoPointer}
+use Rattle.fault.specs.declared.node_fault.NodeFault.TheVariants.{Full, NoPointer}
 use Rattle.bounded.specs.Bytes.{bytes_of}
 use Rattle.bounded.specs.Rows.{rows_of}
 use Rattle.bounded.specs.declared.ivec.IVec.{IVec}
@@ -11,14 +11,14 @@ use Rattle.bounded.specs.declared.table.Table.{Table}
 use Rattle.keyed.specs.Order.{by_bytes, bytes-lawful}
 use Rattle.keyed.specs.Rows.{rising, lookup, put, without, Searched, Put, Removed}
 use Rattle.keyed.specs.declared.edits.TableFull.{TableFull}
-use Rattle.keyed.proofs.Places.{found, missing, lookup-found, lookup-missing, without-found}
+use Rattle.keyed.proofs.Places.{found, missing, lookup-missing, without-found}
 use Rattle.keyed.proofs.Changes.{without-rising}
 use Rattle.keyed.proofs.Meanings.{mapped_lookup, map-without, map-rising}
 use Rattle.node.specs.declared.rows.LeafRow.{LeafRow}
 use Rattle.node.specs.declared.rows.IndexRow.{IndexRow}
 use Rattle.node.specs.declared.data.Data.{Data}
 use Rattle.node.specs.declared.data.Data.TheVariants.{Index, Leaf}
-use Rattle.node.specs.Nodes.{Str, Row, Rows, index, leaf, by_key, sought, ordered, ordered_rows}
+use Rattle.node.specs.Nodes.{Rows, index, leaf, by_key, sought, ordered, ordered_rows}
 use Rattle.node.specs.Links.{Changed, room_for, set_rows, del_rows, pointing, confirm_rows, split_rows}
 use Rattle.node.specs.Meanings.{leaf_row, index_row, data_of, Pointed}
 use Rattle.node.proofs.Tables.{row_order, rises, put_done, put_refused, cut_done, looked_up, few-rows, found_some, some_mapped}

@@ -3,12 +3,9 @@ use Rattle.std.proofs.Common.{◌≡◌, ℕ, suc, ◌≤◌, Bool, true, false,
 use Rattle.std.specs.Option.{option_map}
 use Rattle.std.proofs.lemmas.List.{length-map, length-take-le}
 use Rattle.std.proofs.lemmas.Bool.{lt-ltb, le-ltb}
-use Rattle.bounded.specs.Bytes.{bytes_of}
 use Rattle.bounded.specs.Rows.{rows_of}
-use Rattle.bounded.specs.declared.ivec.IVec.{IVec}
 use Rattle.bounded.specs.declared.table.Table.{Table}
-use Rattle.keyed.specs.Order.{by_bytes}
-use Rattle.keyed.specs.Rows.{by, between, probe, rising, lookup, put, without, Put, Removed}
+use Rattle.keyed.specs.Rows.{by, rising, lookup, put, without, Put, Removed}
 use Rattle.keyed.proofs.Places.{Found, here, later}
 use Rattle.keyed.proofs.Meanings.{mapped_lookup, map-put, map-without, map-rising}
 use Rattle.node.specs.Nodes.{Str, Row, by_key, sought, ordered}

@@ -1,6 +1,6 @@
 -- How a call's answer and what it leaves meet a definition: done as the definition says, or refused and nothing changed.
 -- Assumes nothing.
-use Rattle.std.specs.Prelude.{◌≡◌, ℕ, Bool, List, Ok, Err, Option, Result}
+use Rattle.std.specs.Prelude.{◌≡◌, ℕ, List, Ok, Err, Option, Result}
 use Rattle.fault.specs.declared.node_fault.NodeFault.{NodeFault}
 use Rattle.node.specs.declared.node.Node.{Node}
 use Rattle.node.specs.declared.meta.Meta.{Meta}

@@ -7,7 +7,7 @@ use Rattle.keyed.proofs.seek.find_row.Goals as goal
 pub returns-in-Ok : goal.returns-in-Ok
 returns-in-Ok g c = λ up.
     let p = probe g.R.Key.Order.order g.R.Keyed.key_of c.args.key.now in
-    lookup-found p c.index_rows-i.result c.index_rows-i.is (found p c.args.rows.now c.in-Ok.i (c.in-Ok.ensures.found up))
+    lookup-found p c.index-rows-i.result c.index-rows-i.is (found p c.args.rows.now c.in-Ok.i (c.in-Ok.ensures.found up))
 
 pub returns-in-Err : goal.returns-in-Err
 returns-in-Err g c = λ up.

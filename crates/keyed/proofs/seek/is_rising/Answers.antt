@@ -6,11 +6,11 @@ use Rattle.keyed.proofs.seek.is_rising.Goals as goal
 
 pub returns-in_default : goal.returns-in_default
 returns-in_default g c =
-    sym (rising_stops g.R.Key.Order.order g.R.Keyed.key_of c.args.rows.now (c.loop-i.i - 1) c.loop-i.i (omega arith) c.loop-i-test.true c.index_rows-i.result c.index_rows-i-in-loop-i.result c.index_rows-i.is c.index_rows-i-in-loop-i.is c.key.result.now c.key-in-loop-i.result.now c.key.ensures c.key-in-loop-i.ensures c.compare.result c.compare.ensures c.in_default.not-Less) ∙ c.loop-i.invariant
+    sym (rising_stops g.R.Key.Order.order g.R.Keyed.key_of c.args.rows.now (c.loop-i.i - 1) c.loop-i.i (omega arith) c.loop-i-test.true c.index-rows-i.result c.index-rows-i-in-loop-i.result c.index-rows-i.is c.index-rows-i-in-loop-i.is c.key.result.now c.key-in-loop-i.result.now c.key.ensures c.key-in-loop-i.ensures c.compare.result c.compare.ensures c.in_default.not-Less) ∙ c.loop-i.invariant
 
 pub loop-i-preserved : goal.loop-i-preserved
 loop-i-preserved g c =
-    let step = rising-told g.R.Key.Order.order g.R.Keyed.key_of c.args.rows.now (c.loop-i.i - 1) c.loop-i.i (omega arith) c.loop-i-test.true c.index_rows-i.result c.index_rows-i-in-loop-i.result c.index_rows-i.is c.index_rows-i-in-loop-i.is c.key.result.now c.key-in-loop-i.result.now c.key.ensures c.key-in-loop-i.ensures Less c.in-Less.ensures in
+    let step = rising-told g.R.Key.Order.order g.R.Keyed.key_of c.args.rows.now (c.loop-i.i - 1) c.loop-i.i (omega arith) c.loop-i-test.true c.index-rows-i.result c.index-rows-i-in-loop-i.result c.index-rows-i.is c.index-rows-i-in-loop-i.is c.key.result.now c.key-in-loop-i.result.now c.key.ensures c.key-in-loop-i.ensures Less c.in-Less.ensures in
     let back : c.loop-i.i + 1 - 1 ≡ c.loop-i.i = omega arith in
     rw back (sym step ∙ c.loop-i.invariant)
 

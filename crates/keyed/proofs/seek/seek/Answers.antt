@@ -5,15 +5,15 @@ use Rattle.keyed.proofs.seek.seek.Goals as goal
 
 pub loop-low-preserved-in-Less : goal.loop-low-preserved-in-Less
 loop-low-preserved-in-Less g c =
-    (omega arith, omega arith, λ up. ((c.loop-low.invariant.2 up).0, compared g.R.Key.Order.order g.R.Keyed.key_of g.R.Key.Order.lawful c.args.rows.now up c.args.key.now c.key.result.now _ c.index_rows-mid.result Less c.key.ensures c.index_rows-mid.is (omega arith) c.in-Less.ensures))
+    (omega arith, omega arith, λ up. ((c.loop-low.invariant.2 up).0, compared g.R.Key.Order.order g.R.Keyed.key_of g.R.Key.Order.lawful c.args.rows.now up c.args.key.now c.key.result.now _ c.index-rows-mid.result Less c.key.ensures c.index-rows-mid.is (omega arith) c.in-Less.ensures))
 
 pub returns-in-Equal : goal.returns-in-Equal
 returns-in-Equal g c =
     record {
       within = omega arith;
-      found = λ up. compared g.R.Key.Order.order g.R.Keyed.key_of g.R.Key.Order.lawful c.args.rows.now up c.args.key.now c.key.result.now _ c.index_rows-mid.result Equal c.key.ensures c.index_rows-mid.is (omega arith) c.in-Equal.ensures;
+      found = λ up. compared g.R.Key.Order.order g.R.Keyed.key_of g.R.Key.Order.lawful c.args.rows.now up c.args.key.now c.key.result.now _ c.index-rows-mid.result Equal c.key.ensures c.index-rows-mid.is (omega arith) c.in-Equal.ensures;
     }
 
 pub loop-low-preserved : goal.loop-low-preserved
 loop-low-preserved g c =
-    (omega arith, omega arith, λ up. (compared g.R.Key.Order.order g.R.Keyed.key_of g.R.Key.Order.lawful c.args.rows.now up c.args.key.now c.key.result.now _ c.index_rows-mid.result Greater c.key.ensures c.index_rows-mid.is (omega arith) c.in-Greater.ensures, (c.loop-low.invariant.2 up).1))
+    (omega arith, omega arith, λ up. (compared g.R.Key.Order.order g.R.Keyed.key_of g.R.Key.Order.lawful c.args.rows.now up c.args.key.now c.key.result.now _ c.index-rows-mid.result Greater c.key.ensures c.index-rows-mid.is (omega arith) c.in-Greater.ensures, (c.loop-low.invariant.2 up).1))

@@ -1,4 +1,4 @@
-use Rattle.std.proofs.Common.{◌≡◌, sym, refl, ap, ◌∙◌}
+use Rattle.std.proofs.Common.{sym, refl, ap, ◌∙◌}
 use Rattle.bounded.specs.Rows.{rows_of}
 use Rattle.keyed.specs.Rows.{rising}
 use Rattle.keyed.proofs.Meanings.{map-rising}
@@ -13,4 +13,4 @@ returns-then-not-is_rising c =
 
 pub invariant_of-result : goal.invariant_of-result
 invariant_of-result c =
-    (sym (map-rising root_row by_key (rows_of c.args.roots)) ∙ ap (rising (row_order root_row)) (sym c.as_slice.ensures) ∙ sym c.is_rising.ensures ∙ c.if-not-is_rising.false, tt)
+    record { ruled = sym (map-rising root_row by_key (rows_of c.args.roots)) ∙ ap (rising (row_order root_row)) (sym c.as_slice.ensures) ∙ sym c.is_rising.ensures ∙ c.if-not-is_rising.false }

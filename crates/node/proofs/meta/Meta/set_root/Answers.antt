@@ -1,4 +1,4 @@
-use Rattle.std.proofs.Common.{◌≡◌, cond, Ok, Err, sym, refl, ap, ◌∙◌}
+use Rattle.std.proofs.Common.{cond, Ok, Err, sym, refl, ap, ◌∙◌}
 use Rattle.fault.specs.declared.node_fault.NodeFault.TheVariants.{TooManyRoots}
 use Rattle.bounded.specs.Bytes.{bytes_of}
 use Rattle.bounded.specs.Rows.{rows_of}
@@ -13,7 +13,7 @@ use Rattle.node.proofs.meta.Meta.set_root.Goals as goal
 pub invariant_of-self : goal.invariant_of-self
 invariant_of-self c =
     let m = c.args.self.now in
-    ((put_done root_row TableFull 8 _ (rows_of m.roots) (rows_of c.set_row.new.table) m.ruled c.in-Ok.former c.in-Ok.ensures (few-rows c.set_row.new.table)).2, tt)
+    record { ruled = (put_done root_row TableFull 8 _ (rows_of m.roots) (rows_of c.set_row.new.table) m.ruled c.in-Ok.former c.in-Ok.ensures (few-rows c.set_row.new.table)).2 }
 
 pub returns-in-Ok : goal.returns-in-Ok
 returns-in-Ok c =
