@@ -1,5 +1,5 @@
 -- Every value of the types is within the sizes. Assumes nothing.
-use Rattle.std.proofs.Common.{◌≡◌, ℕ, ◌≤◌, List, [], ◌∷◌, map, length, arith}
+use Rattle.std.proofs.Common.{ℕ, List, [], ◌∷◌, map, arith}
 use Rattle.std.proofs.lemmas.List.{length-map}
 use Rattle.bounded.specs.Bytes.{bytes_of}
 use Rattle.bounded.specs.Rows.{rows_of}

@@ -1,5 +1,5 @@
 -- One write after another. Assumes nothing.
-use Rattle.std.proofs.Common.{◌≡◌, ℕ, suc, ◌+◌, ◌-◌, ◌<◌, ◌≤◌, List, [], ◌∷◌, ◌++◌, length, take, drop, set, Ok, sym, refl, ap, ◌∙◌, subst, append_assoc, append-nil, add-zero, add_assoc, zero-add, add-one, arith, length-append, length-drop}
+use Rattle.std.proofs.Common.{◌≡◌, ℕ, ◌+◌, ◌<◌, ◌≤◌, List, [], ◌∷◌, ◌++◌, length, take, drop, set, Ok, sym, refl, ap, ◌∙◌, subst, append_assoc, append-nil, add-zero, add_assoc, zero-add, add-one, arith, length-append, length-drop}
 use Rattle.std.proofs.lemmas.List.{set_split, take_at, drop_at, drop-drop, length-take-le, take-append-drop}
 use Rattle.serialization.specs.Formats.{each}
 use Rattle.serialization.specs.Calls.{written, Wrote, Writes}

@@ -1,6 +1,6 @@
 -- Which values there are, by their sizes, and the law of a format: what is written reads back as that value with any rest
 -- left over, and no other bytes read as it. Assumes nothing.
-use Rattle.std.specs.Prelude.{◌≡◌, ℕ, ◌^◌, ◌<◌, ◌≤◌, Bool, true, List, [], ◌∷◌, ◌++◌, length, Some, None, Option}
+use Rattle.std.specs.Prelude.{◌≡◌, ℕ, ◌^◌, ◌<◌, ◌≤◌, true, List, [], ◌∷◌, ◌++◌, length, Some, None, Option}
 use Rattle.node.specs.Nodes.{Str, Row, Rows, index, leaf, Contents, lawful, ordered}
 use Rattle.node.specs.Links.{Step, set, del, intend, confirm, cap}
 use Rattle.serialization.specs.Parsing.{Parsed, read}

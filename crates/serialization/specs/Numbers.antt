@@ -1,6 +1,6 @@
 -- A number below 2 ^ 64 in groups of seven bits, lowest first: every byte but the last has its top bit set, and only the
 -- shortest form is read. Assumes nothing.
-use Rattle.std.specs.Prelude.{ℕ, zero, suc, ◌+◌, ◌-◌, ◌*◌, ◌/◌, ◌%◌, Bool, true, false, cond, List, [], ◌∷◌, ◌==◌, nat_lt}
+use Rattle.std.specs.Prelude.{ℕ, zero, suc, ◌+◌, ◌-◌, ◌*◌, ◌/◌, ◌%◌, cond, List, [], ◌∷◌, ◌==◌, nat_lt}
 use Rattle.fault.specs.declared.bytes_fault.BytesFault.TheVariants.{EndsEarly, BadNumber}
 use Rattle.serialization.specs.Parsing.{Parsed, read, fault, and_then}
 

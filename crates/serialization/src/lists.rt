@@ -14,7 +14,7 @@ pub(crate) fn take_rows<R: RowBytes, const N: usize>(
     buf: &mut &[u8],
     fill: R,
 ) -> Result<Table<R, N>, BytesFault>
-    ensures { Takes (λ t. map meaning (rows_of t)) (parse_list N parse buf.old.now) buf.new.now result }
+    ensures { Takes (λ t. map R.meaning (rows_of t)) (parse_list N R.parse buf.old.now) buf.new.now result }
 {
     let count = take_number(buf)?;
     if count > N as u64 {
@@ -30,7 +30,7 @@ pub(crate) fn take_rows<R: RowBytes, const N: usize>(
 
 pub(crate) fn put_rows<R: RowBytes>(rows: &[R], out: &mut [u8], at: usize) -> usize
     requires { (length rows.now < 128) × (at + 1 + 66 * length rows.now ≤ length out.old) }
-    ensures wrote { Wrote at (list_bytes bytes (map meaning rows.now)) out.old out.new result }
+    ensures wrote { Wrote at (list_bytes R.bytes (map R.meaning rows.now)) out.old out.new result }
     ensures bound { result ≤ at + 1 + 66 * length rows.now }
 {
     let mut end = put_number(rows.len() as u64, out, at);

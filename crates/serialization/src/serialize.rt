@@ -44,9 +44,9 @@ pub trait Serialize: Sized {
 
 // The value of a whole payload.
 pub fn decode<S: Serialize + Drop>(payload: &[u8]) -> Result<S, BytesFault>
-    ensures reads { Decodes value (whole (parse payload.now)) result }
-    ensures back { (v : Value) → Fits v → payload.now ≡ bytes v → Decodes value (Ok v) result }
-    ensures only { (x : S) → result ≡ Ok x → payload.now ≡ bytes (value x) }
+    ensures reads { Decodes S.value (whole (S.parse payload.now)) result }
+    ensures back { (v : S.Value) → S.Fits v → payload.now ≡ S.bytes v → Decodes S.value (Ok v) result }
+    ensures only { (x : S) → result ≡ Ok x → payload.now ≡ S.bytes (S.value x) }
 {
     let mut rest = payload;
     let read = S::deserialize(&mut rest);

@@ -9,7 +9,7 @@ use Rattle.serialization.specs.Parsing.{Parsed, read, fault}
 use Rattle.serialization.specs.Numbers.{limit, join_groups, parse_groups}
 use Rattle.serialization.specs.Calls.{Stops}
 use Rattle.serialization.specs.Numbering.{limit_le, limit-more}
-use Rattle.serialization.proofs.Reading.{stops_then, parse-end, parse-last, parse_past, parse-one, parse-next}
+use Rattle.serialization.proofs.Reading.{stops_then, parse-end, parse-last, parse-one, parse-next}
 use Rattle.serialization.proofs.groups.+take_groups.Goals as goal
 
 pub returns-in_default : goal.returns-in_default

@@ -1,4 +1,4 @@
-use Rattle.std.proofs.Common.{◌≡◌, sym, ap, ◌∙◌, subst, arith}
+use Rattle.std.proofs.Common.{◌≡◌, sym, ap, subst, arith}
 use Rattle.node.specs.declared.link.Link.{Link}
 use Rattle.node.specs.Meanings.{link_of}
 use Rattle.serialization.specs.Formats.{link_bytes}

@@ -1,4 +1,4 @@
-use Rattle.std.proofs.Common.{◌≡◌, ◌∷◌, map, length, sym, ap, ◌∙◌, arith}
+use Rattle.std.proofs.Common.{◌∷◌, map, length, sym, ap, ◌∙◌, arith}
 use Rattle.node.specs.Meanings.{leaf_row, index_row, data_of}
 use Rattle.node.proofs.Tables.{few-rows}
 use Rattle.serialization.specs.Formats.{leaf_bytes, index_bytes, list_bytes, data_bytes}

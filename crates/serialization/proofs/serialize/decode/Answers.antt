@@ -2,7 +2,7 @@ use Rattle.std.proofs.Common.{◌≡◌, ◌<◌, [], length, Ok, Err, sym, ap, 
 use Rattle.std.proofs.lemmas.List.{nil_from_length}
 use Rattle.std.proofs.lemmas.Bool.{eqb-true, eqb-false}
 use Rattle.fault.specs.declared.bytes_fault.BytesFault.{BytesFault}
-use Rattle.fault.specs.declared.bytes_fault.BytesFault.TheVariants.{Unlawful, LeftOver}
+use Rattle.fault.specs.declared.bytes_fault.BytesFault.TheVariants.{LeftOver}
 use Rattle.serialization.specs.Parsing.{read, unlawful}
 use Rattle.serialization.specs.Calls.{whole, Refuses}
 use Rattle.serialization.proofs.Whole.{whole-left, unlawful-left, whole_refused, decode_back, decode_only}

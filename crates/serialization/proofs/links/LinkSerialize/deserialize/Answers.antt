@@ -1,10 +1,9 @@
-use Rattle.std.proofs.Common.{◌≡◌, ℕ, List, length, get_or, sym, ap, ◌∙◌, subst, rules}
-use Rattle.std.specs.List.{between}
+use Rattle.std.proofs.Common.{sym, ap, ◌∙◌, subst, rules}
 use Rattle.std.proofs.lemmas.Slice.{first_rest}
 use Rattle.std.proofs.lemmas.Result.{err_from_is_err_and}
 use Rattle.node.specs.Links.{Step}
-use Rattle.serialization.specs.Parsing.{Parsed, and_then, parse_byte}
-use Rattle.serialization.specs.Formats.{parse_tagged, parse_link}
+use Rattle.serialization.specs.Parsing.{Parsed}
+use Rattle.serialization.specs.Formats.{parse_link}
 use Rattle.serialization.specs.Calls.{Stops}
 use Rattle.serialization.proofs.Reading.{Stops_refuses}
 use Rattle.serialization.proofs.links.LinkSerialize.deserialize.Goals as goal

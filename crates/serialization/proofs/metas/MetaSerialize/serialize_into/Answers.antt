@@ -1,4 +1,4 @@
-use Rattle.std.proofs.Common.{◌≡◌, length, ap, arith}
+use Rattle.std.proofs.Common.{length, ap, arith}
 use Rattle.node.specs.Meanings.{roots_of}
 use Rattle.node.proofs.Tables.{few-rows}
 use Rattle.serialization.specs.Formats.{meta_bytes}

@@ -1,4 +1,4 @@
-use Rattle.std.proofs.Common.{◌≡◌, ap, subst}
+use Rattle.std.proofs.Common.{ap, subst}
 use Rattle.node.specs.declared.parts.NodeParts.{NodeParts}
 use Rattle.node.specs.Meanings.{parts_of}
 use Rattle.serialization.specs.Formats.{node_bytes}
