@@ -16,7 +16,7 @@ pub struct Payload {
 
 impl Payload {
     pub fn new<S: Serialize>(value: &S) -> Payload
-        ensures { take result.len result.bytes ≡ bytes (S.Serialize.value value.now) }
+        ensures { take result.len result.bytes ≡ S.bytes (S.value value.now) }
     {
         let mut bytes = [0; PAYLOAD];
         match value.serialize_into(&mut bytes) {

@@ -1,4 +1,4 @@
-use Rattle.std.proofs.Common.{◌≡◌, ap, ◌∙◌}
+use Rattle.std.proofs.Common.{ap, ◌∙◌}
 use Rattle.bounded.specs.Rows.{rows_of}
 use Rattle.node.specs.Meanings.{leaf_row}
 use Rattle.node.specs.Nodes.{leaf}

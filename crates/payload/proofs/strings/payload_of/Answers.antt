@@ -1,4 +1,4 @@
-use Rattle.std.proofs.Common.{◌≡◌, length, drop, is_ok, Some, None, vec_items, sym, ap, ◌∙◌, drop_of_length-le}
+use Rattle.std.proofs.Common.{drop, is_ok, Some, None, vec_items, ap, ◌∙◌, drop_of_length-le}
 use Rattle.std.proofs.ResultArms.{chosen}
 use Rattle.std.proofs.lemmas.Result.{err_from_is_err_and}
 use Rattle.payload.specs.Spelling.{texts, hex_words}
