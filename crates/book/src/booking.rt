@@ -8,8 +8,9 @@ ghost use Rattle.book.specs.Books.{told, heads_of, mem_of, LiveIndex, PendingInd
 
 use crate::book::Book;
 use crate::head::Head;
-use fault::{BytesFault, DiskPtr, Lsn, PageId};
+use fault::{BytesFault, DiskPtr, PageId};
 use logs::{CacheInfo, Event, Kind, LogFault, Reservation, Returned, Status};
+use logs::Position;
 
 pub fn is_pending(s: Status) -> bool
     ensures { result ≡ is_pending (state_of s) }
@@ -46,7 +47,7 @@ pub fn same_ptr(a: DiskPtr, b: DiskPtr) -> bool
 
 impl Book {
     // The index of the message at a position.
-    pub fn find(&self, lsn: Lsn) -> Option<usize>
+    pub fn find(&self, lsn: Position) -> Option<usize>
         ensures { At (heads_of self.now) lsn result }
     {
         let mut lo = 0;
@@ -67,7 +68,7 @@ impl Book {
     }
 
     // The index of the live message at a position and pointer.
-    pub fn live_at(&self, lsn: Lsn, pointer: DiskPtr) -> Option<usize>
+    pub fn live_at(&self, lsn: Position, pointer: DiskPtr) -> Option<usize>
         ensures { LiveIndex (mem_of self.now) (heads_of self.now) lsn pointer result }
     {
         let Some(i) = self.find(lsn) else {
@@ -84,7 +85,7 @@ impl Book {
     }
 
     // The index of the pending message at a position and pointer.
-    pub fn pending_at(&self, lsn: Lsn, pointer: DiskPtr) -> Option<usize>
+    pub fn pending_at(&self, lsn: Position, pointer: DiskPtr) -> Option<usize>
         ensures { PendingIndex (mem_of self.now) (heads_of self.now) lsn pointer result }
     {
         let Some(i) = self.find(lsn) else {
@@ -170,7 +171,7 @@ impl Book {
     pub fn read(
         &self,
         page: PageId,
-        lsn: Lsn,
+        lsn: Position,
         pointer: DiskPtr,
         scratch: &mut [u8],
     ) -> Result<(Kind, usize), LogFault>
@@ -191,7 +192,7 @@ impl Book {
     }
 
     // The told stable position is at least l.
-    pub fn raise(&mut self, l: Lsn)
+    pub fn raise(&mut self, l: Position)
         ensures { Raised self.old self.new l }
     {
         if self.stable < l {

@@ -1,10 +1,11 @@
-use fault::{DiskPtr, Lsn, PageId};
+use fault::{DiskPtr, PageId};
 use logs::{Kind, Status};
+use logs::Position;
 
 // A message of a log: its payload is the `len` bytes at `at` of the log's memory.
 #[derive(Clone, Copy)]
 pub struct Head {
-    pub lsn: Lsn,
+    pub lsn: Position,
     pub pointer: DiskPtr,
     pub page: PageId,
     pub kind: Kind,

@@ -1,11 +1,12 @@
 // A plain model of a log: a list of messages, each of which knows how its bytes were made.
-use fault::{DiskPtr, Lsn, PageId};
+use fault::{DiskPtr, PageId};
 use logs::{CacheInfo, Kind, Status};
 use std::alloc::{AllocError, Global};
+use logs::Position;
 
 #[derive(Clone, Copy)]
 pub struct Plain {
-    pub lsn: Lsn,
+    pub lsn: Position,
     pub pointer: DiskPtr,
     pub page: PageId,
     pub kind: Kind,
@@ -26,8 +27,8 @@ pub enum Shape {
 #[derive(Drop)]
 pub struct Model {
     pub plains: Vec<Plain>,
-    pub next: Lsn,
-    pub stable: Lsn,
+    pub next: Position,
+    pub stable: Position,
     pub shape: Shape,
 }
 
@@ -176,7 +177,7 @@ impl Model {
     }
 
     // The live message there.
-    pub fn live_at(&self, lsn: Lsn, pointer: DiskPtr) -> Option<Plain> {
+    pub fn live_at(&self, lsn: Position, pointer: DiskPtr) -> Option<Plain> {
         for plain in self.plains.as_slice() {
             if plain.status == Status::Live && plain.lsn == lsn && plain.pointer == pointer {
                 return Some(*plain);

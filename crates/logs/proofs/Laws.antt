@@ -1,5 +1,6 @@
 -- What the calls of a log leave of the live messages. Assumes nothing.
-use Rattle.std.proofs.Common.{◌≡◌, ℕ, ◌<◌, ◌≤◌, Bool, true, false, not, eqb, List, [], ◌∷◌, ◌++◌, length, Some, None, Option, sym, refl, ap, ◌∙◌, subst, arith, eq-eqb, ne_eqb, eqb-true}
+use Rattle.std.proofs.Common.{◌≡◌, ℕ, ◌<◌, Bool, true, false, eqb, List, [], ◌∷◌, ◌++◌, Some, None, Option, sym, refl, ap, ◌∙◌, arith, eq-eqb, ne_eqb, eqb-true}
+use Rattle.std.proofs.lemmas.Cmp.{int_eq_equiv}
 use Rattle.logs.specs.declared.messages.Kind.{Kind}
 use Rattle.logs.specs.declared.messages.CacheInfo.{CacheInfo}
 use Rattle.fault.specs.declared.disk_pointer.DiskPtr.{DiskPtr}
@@ -9,8 +10,8 @@ use Rattle.logs.specs.declared.log_fault.LogFault.TheVariants.{Bytes, Full, Pend
 use Rattle.logs.specs.declared.messages.Event.{Event}
 use Rattle.logs.specs.declared.messages.Event.TheVariants.{Complete, Abort}
 use Rattle.logs.specs.declared.reservation.Reservation.{Reservation}
-use Rattle.logs.specs.Meaning.{Meaning, Message, State, pending, live, dead, cancelled, meets, is_pending, is_live, is_done, same_ptr, sweep, keep_if, lives_of, unnamed, both, either, is_at, or_else, becomes, with_state, any_pending, live_at, pending_at, settle, named, mark, Sheds, none, kept, shed, Below}
-use Rattle.logs.specs.Clauses.{fresh, Reserved, Settled, NotTaken, Marked, Written, Same}
+use Rattle.logs.specs.Meaning.{Meaning, Message, State, pending, live, dead, cancelled, meets, is_pending, is_live, is_done, same_ptr, keep_if, lives_of, unnamed, both, either, is_at, or_else, becomes, with_state, any_pending, live_at, pending_at, settle, named, mark, Sheds, none, kept, shed, Below}
+use Rattle.logs.specs.Clauses.{fresh, Reserved, Settled, NotTaken, Written, Same}
 
 pub either_left : (a b : Bool) → either a b ≡ false → a ≡ false
 either_left true b h = h
@@ -60,7 +61,7 @@ not_at l o m h = rw (ne_eqb m.lsn l (λ e. omega arith))
 
 pub same_self : (o : DiskPtr) → same_ptr o o ≡ true
 same_self (Inline x) = eqb_refl x
-same_self (Blob x i) = rw (eqb_refl x) (eqb_refl i)
+same_self (Blob x i) = rw (eqb_refl x) (int_eq_equiv.refl i)
 
 pub at_self : (m : Message) → is_at m.lsn m.pointer m ≡ true
 at_self m = rw (eqb_refl m.lsn) (same_self m.pointer)

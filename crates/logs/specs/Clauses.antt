@@ -1,5 +1,5 @@
 -- What each call of a log promises. Assumes nothing.
-use Rattle.std.specs.Prelude.{◌≡◌, ℕ, ◌+◌, ◌^◌, ◌<◌, ◌≤◌, max, Bool, true, false, List, [], ◌∷◌, ◌++◌, length, drop, is_some, Some, None, Ok, Err, Option, Result, ◌≢◌}
+use Rattle.std.specs.Prelude.{◌≡◌, ℕ, ◌+◌, ◌^◌, ◌<◌, ◌≤◌, Bool, true, false, List, [], ◌∷◌, ◌++◌, length, drop, is_some, Some, None, Ok, Err, Result, ◌≢◌}
 use Rattle.logs.specs.declared.messages.Kind.{Kind}
 use Rattle.fault.specs.declared.disk_pointer.DiskPtr.{DiskPtr}
 use Rattle.logs.specs.declared.messages.CacheInfo.{CacheInfo}
@@ -9,7 +9,7 @@ use Rattle.logs.specs.declared.reservation.Reservation.{Reservation}
 use Rattle.logs.specs.declared.reservation.Returned.{Returned}
 use Rattle.fault.specs.declared.bytes_fault.BytesFault.TheVariants.{ScratchTooSmall}
 use Rattle.logs.specs.declared.messages.Event.{Event}
-use Rattle.logs.specs.Meaning.{Meaning, Message, State, pending, live, cancelled, meets, both, is_blob, same_blob, any_pending, live_at, pending_at, settle, mark, Sheds, Below}
+use Rattle.logs.specs.Meaning.{Meaning, Message, State, pending, live, meets, both, is_blob, same_blob, any_pending, live_at, pending_at, settle, mark, Sheds, Below}
 
 abbrev pub fresh : ℕ → Kind → List ℕ → ℕ → Reservation → State → Message
 fresh p k bytes z r s = record { lsn = r.lsn; pointer = r.pointer; page = p; kind = k; payload = bytes; size = z; state = s }

@@ -1,5 +1,6 @@
 -- What a log means: its messages in order of reserving, and what the calls do to them. Assumes nothing.
-use Rattle.std.specs.Prelude.{◌≡◌, ℕ, ◌<◌, Bool, true, false, not, List, [], ◌∷◌, ◌++◌, Some, None, Ok, Err, Option, Result, ◌==◌}
+use Rattle.std.specs.Prelude.{◌≡◌, ℕ, ◌<◌, Bool, true, false, not, List, [], ◌∷◌, Some, None, Ok, Err, Option, Result, ◌==◌}
+use Rattle.std.specs.Ordering.{int_eq}
 use Rattle.logs.specs.declared.messages.Kind.{Kind}
 use Rattle.logs.specs.declared.messages.Status.{Status}
 use Rattle.logs.specs.declared.messages.Status.TheVariants.{Pending, Live, Dead, Cancelled}
@@ -90,7 +91,7 @@ abbrev pub same_ptr : DiskPtr → DiskPtr → Bool
 same_ptr (Inline x) (Inline y) = x == y
 same_ptr (Inline x) (Blob y j) = false
 same_ptr (Blob x i) (Inline y) = false
-same_ptr (Blob x i) (Blob y j) = both (x == y) (i == j)
+same_ptr (Blob x i) (Blob y j) = both (x == y) (int_eq i j)
 
 abbrev pub is_blob : DiskPtr → Bool
 is_blob (Inline x) = false
@@ -101,7 +102,7 @@ abbrev pub same_blob : DiskPtr → DiskPtr → Bool
 same_blob (Inline x) (Inline y) = false
 same_blob (Inline x) (Blob y j) = false
 same_blob (Blob x i) (Inline y) = false
-same_blob (Blob x i) (Blob y j) = i == j
+same_blob (Blob x i) (Blob y j) = int_eq i j
 
 abbrev pub any_pending : List Message → Bool
 any_pending [] = false

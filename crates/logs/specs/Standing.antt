@@ -1,12 +1,12 @@
 -- What every log keeps: the live message at a position and pointer, and the live messages of a page, after each call. Assumes nothing.
-use Rattle.std.specs.Prelude.{◌≡◌, ℕ, Bool, true, false, List, [], ◌∷◌, ◌++◌, Some, None, ◌==◌, ◌≢◌}
+use Rattle.std.specs.Prelude.{◌≡◌, ℕ, Bool, false, List, [], ◌∷◌, ◌++◌, Some, ◌==◌, ◌≢◌}
 use Rattle.logs.specs.declared.messages.Kind.{Kind}
 use Rattle.fault.specs.declared.disk_pointer.DiskPtr.{DiskPtr}
 use Rattle.logs.specs.declared.messages.CacheInfo.{CacheInfo}
 use Rattle.logs.specs.declared.log_fault.LogFault.{LogFault}
 use Rattle.logs.specs.declared.reservation.Reservation.{Reservation}
 use Rattle.logs.specs.declared.messages.Event.TheVariants.{Complete, Abort}
-use Rattle.logs.specs.Meaning.{Meaning, Message, live, both, live_at, pending_at, lives_of, unnamed, named, mark}
+use Rattle.logs.specs.Meaning.{Meaning, Message, live, both, live_at, lives_of, unnamed, named, mark}
 use Rattle.logs.specs.Clauses.{fresh, Reserved, Settled, NotTaken, Written, Same}
 
 pub record Standing : Type 0 where

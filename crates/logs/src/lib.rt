@@ -8,7 +8,7 @@ pub mod log_fault;
 pub mod messages;
 pub mod reservation;
 
-pub use logs::Log;
+pub use log::Log;
 pub use log_fault::LogFault;
-pub use messages::{CacheInfo, Event, Kind, Status};
+pub use messages::{CacheInfo, Event, Kind, Position, Status};
 pub use reservation::{Reservation, Returned};

@@ -5,9 +5,9 @@ ghost use Rattle.logs.specs.Clauses.{OnReserve, OnSettle, Marked, OnRead, OnMove
 ghost use Rattle.logs.specs.declared.messages.Event.TheVariants.{Complete, Abort};
 
 use crate::log_fault::LogFault;
-use crate::messages::{CacheInfo, Kind};
+use crate::messages::{CacheInfo, Kind, Position};
 use crate::reservation::{Reservation, Returned};
-use fault::{DiskPtr, LogOffset, Lsn, PageId};
+use fault::{DiskPtr, LogOffset, PageId};
 
 // A log, by what it means.
 pub trait Log {
@@ -37,7 +37,7 @@ pub trait Log {
     fn read(
         &self,
         pid: PageId,
-        lsn: Lsn,
+        lsn: Position,
         pointer: DiskPtr,
         scratch: &mut [u8],
     ) -> Result<(Kind, usize), LogFault>
@@ -47,7 +47,7 @@ pub trait Log {
     fn rewrite_blob_pointer(
         &mut self,
         pid: PageId,
-        lsn: Lsn,
+        lsn: Position,
         pointer: DiskPtr,
     ) -> Result<Reservation, LogFault>
         ensures { OnMove (means self.old) (means self.new) pid lsn pointer result };
@@ -56,11 +56,11 @@ pub trait Log {
     fn propose(&self) -> Option<(PageId, LogOffset)>;
 
     // The told stable position.
-    fn stable(&self) -> Lsn
+    fn stable(&self) -> Position
         ensures { result ≡ (means self.now).stable };
 
     // Brings the told stable position to at least the one given.
-    fn make_durable(&mut self, lsn: Lsn)
+    fn make_durable(&mut self, lsn: Position)
         ensures { Durable (means self.old) (means self.new) lsn };
 }
 

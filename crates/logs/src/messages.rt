@@ -1,7 +1,10 @@
 ghost use Rattle.std.specs.Prelude.{◌≡◌};
 ghost use Rattle.logs.specs.Meaning.{met};
 
-use fault::{DiskPtr, Lsn};
+use fault::DiskPtr;
+
+// A position in a log, in order of reserving: at least 1, below 2^62.
+pub type Position = u64;
 
 // What a message holds.
 #[derive(Clone, Copy, PartialEq, Eq, Debug)]
@@ -17,7 +20,7 @@ pub enum Kind {
 #[derive(Clone, Copy, PartialEq, Eq, Debug)]
 pub struct CacheInfo {
     pub ts: u64,
-    pub lsn: Lsn,
+    pub lsn: Position,
     pub pointer: DiskPtr,
     pub log_size: u64,
 }

@@ -2,12 +2,13 @@ ghost use Rattle.std.specs.Prelude.{◌≡◌};
 ghost use Rattle.logs.specs.Meaning.{Spent};
 
 use crate::log_fault::LogFault;
-use fault::{DiskPtr, Lsn};
+use crate::messages::Position;
+use fault::DiskPtr;
 
 // A place in a log that has to be handed to complete or abort: it can be neither dropped nor taken apart.
 pub struct Reservation {
     log: u64,
-    lsn: Lsn,
+    lsn: Position,
     pointer: DiskPtr,
 }
 
@@ -19,7 +20,7 @@ pub struct Returned {
 
 impl Reservation {
     // A reservation of the message at a position and pointer, in the log with this number.
-    pub fn new(log: u64, lsn: Lsn, pointer: DiskPtr) -> Reservation
+    pub fn new(log: u64, lsn: Position, pointer: DiskPtr) -> Reservation
         ensures { (result.log ≡ log) × (result.lsn ≡ lsn) × (result.pointer ≡ pointer) }
     {
         Reservation { log, lsn, pointer }
@@ -32,7 +33,7 @@ impl Reservation {
         self.log
     }
 
-    pub fn lsn(&self) -> Lsn
+    pub fn lsn(&self) -> Position
         ensures { result ≡ self.now.lsn }
     {
         self.lsn
@@ -45,7 +46,7 @@ impl Reservation {
     }
 
     // Ends the reservation of the message that a log has just settled; any other is given back.
-    pub fn spend(self, log: u64, lsn: Lsn, pointer: DiskPtr) -> Result<(), Reservation>
+    pub fn spend(self, log: u64, lsn: Position, pointer: DiskPtr) -> Result<(), Reservation>
         ensures { Spent self log lsn pointer result }
     {
         if self.log != log || self.lsn != lsn || self.pointer != pointer {

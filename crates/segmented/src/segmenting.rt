@@ -9,9 +9,10 @@ ghost use Rattle.segmented.specs.Segments.{seg_means, empty_segmented, OnReady, 
 use crate::scans::{lowest_page, seg_busy, slot_busy, slot_of, sparse_segment};
 use crate::segmented::Segmented;
 use book::{Book, Head};
-use fault::{DiskPtr, LogOffset, Lsn, PageId};
+use fault::{DiskPtr, LogOffset, PageId};
 use logs::{CacheInfo, Event, Kind, Log, LogFault, Reservation, Returned};
 use std::alloc::{AllocError, Global};
+use logs::Position;
 
 impl Segmented {
     fn seg_free(&self, q: usize) -> bool
@@ -251,7 +252,7 @@ impl Log for Segmented {
     fn read(
         &self,
         pid: PageId,
-        lsn: Lsn,
+        lsn: Position,
         pointer: DiskPtr,
         scratch: &mut [u8],
     ) -> Result<(Kind, usize), LogFault> {
@@ -261,7 +262,7 @@ impl Log for Segmented {
     fn rewrite_blob_pointer(
         &mut self,
         pid: PageId,
-        lsn: Lsn,
+        lsn: Position,
         pointer: DiskPtr,
     ) -> Result<Reservation, LogFault> {
         let Some(i) = slot_of(pointer) else {
@@ -285,11 +286,11 @@ impl Log for Segmented {
         self.sparsest()
     }
 
-    fn stable(&self) -> Lsn {
+    fn stable(&self) -> Position {
         self.book.stable
     }
 
-    fn make_durable(&mut self, lsn: Lsn) {
+    fn make_durable(&mut self, lsn: Position) {
         self.book.raise(lsn);
     }
 }

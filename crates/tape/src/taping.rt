@@ -4,9 +4,10 @@ ghost use Rattle.tape.specs.Tapes.{tape_means, tape_fits, empty_tape};
 
 use crate::tape::Tape;
 use book::{Book, Head};
-use fault::{DiskPtr, LogOffset, Lsn, PageId};
+use fault::{DiskPtr, LogOffset, PageId};
 use logs::{CacheInfo, Event, Kind, Log, LogFault, Reservation, Returned};
 use std::alloc::{AllocError, Global};
+use logs::Position;
 
 impl Tape {
     // An empty tape with this number, of so many bytes.
@@ -90,7 +91,7 @@ impl Log for Tape {
     fn read(
         &self,
         pid: PageId,
-        lsn: Lsn,
+        lsn: Position,
         pointer: DiskPtr,
         scratch: &mut [u8],
     ) -> Result<(Kind, usize), LogFault> {
@@ -100,7 +101,7 @@ impl Log for Tape {
     fn rewrite_blob_pointer(
         &mut self,
         pid: PageId,
-        _lsn: Lsn,
+        _lsn: Position,
         pointer: DiskPtr,
     ) -> Result<Reservation, LogFault> {
         Err(LogFault::NoMessage(pid, pointer))
@@ -110,11 +111,11 @@ impl Log for Tape {
         None
     }
 
-    fn stable(&self) -> Lsn {
+    fn stable(&self) -> Position {
         self.book.stable
     }
 
-    fn make_durable(&mut self, lsn: Lsn) {
+    fn make_durable(&mut self, lsn: Position) {
         self.book.raise(lsn);
     }
 }
