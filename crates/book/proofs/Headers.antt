@@ -1,17 +1,17 @@
 -- Headers by index. Assumes nothing.
-use Rattle.std.proofs.Common.{◌≡◌, ℕ, zero, suc, ◌+◌, ◌-◌, ◌<◌, ◌≤◌, Bool, true, false, cond, not, eqb, ltb, leb, ◌⊎◌, List, [], ◌∷◌, ◌++◌, length, get_or, take, drop, set, Some, None, Option, sym, refl, ap, ◌∙◌, subst, inl, inr, arith, ltb-true, lt-ltb, eq-eqb, ne_eqb, eqb-true, le-leb, leb-true}
-use Rattle.std.proofs.lemmas.Bool.{cases_lt, not_true}
-use Rattle.std.proofs.lemmas.List.{get_or_read, drop_more, length-append, take-append-le, drop-append-le, drop_at, take_at, take_all, length-drop}
+use Rattle.std.proofs.Common.{◌≡◌, ℕ, zero, suc, ◌+◌, ◌-◌, ◌<◌, ◌≤◌, Bool, true, false, cond, not, ltb, leb, ◌⊎◌, List, [], ◌∷◌, ◌++◌, length, get_or, set, Some, None, refl, ap, ◌∙◌, inl, inr, arith, ltb-true, lt-ltb, eq-eqb, ne_eqb, le-leb, leb-true}
+use Rattle.std.proofs.lemmas.Bool.{cases_lt, not-true}
+use Rattle.std.proofs.lemmas.List.{get_or_read, length-append}
 use Rattle.fault.specs.declared.disk_pointer.DiskPtr.{DiskPtr}
-use Rattle.logs.specs.Meaning.{State, pending, live, cancelled, met, Message, is_pending, is_live, both, either, is_at, same_ptr, or_else, becomes, sweep, settle, mark, named, dead, any_pending, pending_at, live_at, Sheds, none, kept, shed, Below}
-use Rattle.logs.proofs.Laws.{both_no, eqb_refl, either_left, either_right}
+use Rattle.logs.specs.Meaning.{State, pending, live, cancelled, met, Message, is_pending, is_live, both, either, is_at, same_ptr, or_else, sweep, dead, any_pending, pending_at, live_at, Sheds, none, kept, Below}
+use Rattle.logs.proofs.Laws.{both_no, either_left, either_right}
 use Rattle.logs.specs.declared.messages.Status.{Status}
 use Rattle.logs.specs.declared.messages.Status.TheVariants.{Pending, Live, Dead, Cancelled}
 use Rattle.logs.specs.declared.messages.Event.{Event}
 use Rattle.logs.specs.declared.messages.Event.TheVariants.{Complete, Abort, Mark}
 use Rattle.book.specs.declared.head.Head.{Head}
 use Rattle.logs.specs.Meaning.{state_of}
-use Rattle.book.specs.Heads.{calm, message, messages, with_status, bare, Ranked, ranked, At, lives, live_head}
+use Rattle.book.specs.Heads.{calm, message, messages, with_status, bare, Ranked, ranked, lives, live_head}
 use Rattle.book.specs.Books.{LiveIndex, PendingIndex}
 
 -- tests and facts
@@ -228,7 +228,7 @@ pub calm-last : (mem : List ℕ) (hs : List Head) (d : Head) → calm hs ≡ tru
 calm-last mem [] d c h = absurd (omega arith)
 calm-last mem (x ∷ []) d c h = either_end (is_pending (state_of x.status))
 calm-last mem (x ∷ y ∷ hs) d c h =
-    let quiet = not_true (is_pending (state_of x.status)) (both_0 (not (is_pending (state_of x.status))) _ c) in
+    let quiet = not-true (is_pending (state_of x.status)) (both_0 (not (is_pending (state_of x.status))) _ c) in
     ap (λ (b : Bool). either b (any_pending (messages mem (y ∷ hs)))) quiet ∙ calm-last mem (y ∷ hs) d (both_1 (not (is_pending (state_of x.status))) _ c) (omega arith) ∙ ap (λ (g : Head). is_pending (state_of g.status)) (later hs)
   where
     later : (zs : List Head) → get_or (y ∷ zs) (suc (length zs) - 1) d ≡ get_or (x ∷ y ∷ zs) (suc (suc (length zs)) - 1) d

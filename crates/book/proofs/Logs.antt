@@ -1,22 +1,21 @@
 -- From a book's calls to a log's. Assumes nothing.
-use Rattle.std.proofs.Common.{◌≡◌, ℕ, zero, suc, ◌+◌, ◌-◌, ◌^◌, ◌<◌, ◌≤◌, Bool, true, false, not, eqb, ltb, leb, List, [], ◌∷◌, ◌++◌, length, get_or, take, drop, set, is_some, Some, None, Ok, Err, vec_items, vec_len, vec_capacity, Option, Result, sym, refl, ap, ◌∙◌, subst, arith, ltb-true, leb-true}
-use Rattle.std.proofs.lemmas.List.{length-append, take-append-le, drop-append-le, drop_at, take_at, take_all, length-drop, length_push}
+use Rattle.std.proofs.Common.{◌≡◌, ℕ, ℤ, ◌+◌, ◌^◌, ◌<◌, ◌≤◌, Bool, true, false, not, eqb, List, [], ◌∷◌, ◌++◌, length, take, drop, is_some, None, Ok, Err, vec_items, Result, sym, refl, ap, ◌∙◌, subst, arith}
+use Rattle.std.proofs.lemmas.List.{take-append-le, drop-append-le, drop_at, take_all, length-drop, length_push}
 use Rattle.logs.specs.declared.messages.Kind.{Kind}
 use Rattle.fault.specs.declared.disk_pointer.DiskPtr.{DiskPtr}
 use Rattle.fault.specs.declared.disk_pointer.DiskPtr.TheVariants.{Inline, Blob}
 use Rattle.logs.specs.declared.messages.CacheInfo.{CacheInfo}
 use Rattle.logs.specs.declared.reservation.Reservation.{Reservation}
 use Rattle.logs.specs.declared.reservation.Returned.{Returned}
-use Rattle.logs.specs.Meaning.{Meaning, State, Message, pending, is_pending, is_live, is_blob, both, either, is_at, same_ptr, live_at, any_pending, Sheds}
-use Rattle.logs.specs.Clauses.{fresh, Reserved, Settled, OnSettle, Marked, Durable, blob_there}
+use Rattle.logs.specs.Meaning.{Message, pending, is_live, is_blob, live_at, any_pending}
+use Rattle.logs.specs.Clauses.{fresh, Reserved, OnSettle, Marked, blob_there}
 use Rattle.logs.proofs.Laws.{both_no}
-use Rattle.logs.specs.declared.messages.Status.{Status}
 use Rattle.logs.specs.declared.messages.Event.{Event}
 use Rattle.book.specs.declared.head.Head.{Head}
 use Rattle.book.specs.declared.book.Book.{Book}
 use Rattle.logs.specs.Meaning.{state_of}
-use Rattle.book.specs.Heads.{message, messages, with_status, bare, Ranked, ranked, inlined, payload_of}
-use Rattle.book.specs.Books.{heads_of, mem_of, told, book_means, Kin, Settles, BookSettle, Marks, Raised, new_head, Appended, Extended}
+use Rattle.book.specs.Heads.{message, messages, bare, Ranked, inlined}
+use Rattle.book.specs.Books.{heads_of, mem_of, told, book_means, Kin, BookSettle, Marks, new_head, Appended, Extended}
 use Rattle.book.proofs.Headers.{both_0, both_1, both_yes, is-ranked, messages_push, messages_below, sheds-none}
 use Rattle.book.proofs.Pages.{kin_self}
 
@@ -51,7 +50,7 @@ module _ (F : Book → ℕ → Bool) (G : Book → Bool) where
   on-mark b c p es h = record { number = h.kin.number; stable = h.kin.stable; after = h.after }
 
 -- no message is a blob
-live-inlined : (mem : List ℕ) (hs : List Head) (l x i : ℕ) → inlined hs ≡ true → live_at (messages mem hs) l (Blob x i) ≡ None
+live-inlined : (mem : List ℕ) (hs : List Head) (l x : ℕ) (i : ℤ) → inlined hs ≡ true → live_at (messages mem hs) l (Blob x i) ≡ None
 live-inlined mem [] l x i t = refl
 live-inlined mem (h ∷ hs) l x i t = at (live-inlined mem hs l x i (both_1 (not (is_blob h.pointer)) _ t)) h.pointer refl
   where

@@ -1,13 +1,13 @@
 -- What the calls of a book do to its messages. Assumes nothing.
-use Rattle.std.proofs.Common.{◌≡◌, ℕ, zero, suc, ◌+◌, ◌-◌, ◌<◌, ◌≤◌, Bool, true, false, eqb, ltb, leb, List, [], ◌∷◌, ◌++◌, length, get_or, take, drop, set, Some, None, Option, sym, refl, ap, ◌∙◌, subst, arith, eq-eqb, ne_eqb, eqb-true}
-use Rattle.std.proofs.lemmas.List.{get_or_read, length-take, length-drop, length-append}
+use Rattle.std.proofs.Common.{◌≡◌, ℕ, ◌+◌, ◌<◌, ◌≤◌, true, false, eqb, List, [], ◌∷◌, ◌++◌, length, get_or, set, Some, None, sym, refl, ap, ◌∙◌, subst, arith, eq-eqb, ne_eqb}
+use Rattle.std.proofs.lemmas.List.{length-take, length-drop}
 use Rattle.fault.specs.declared.disk_pointer.DiskPtr.{DiskPtr}
 use Rattle.fault.specs.declared.disk_pointer.DiskPtr.TheVariants.{Inline}
 use Rattle.logs.specs.declared.messages.Kind.TheVariants.{Free}
 use Rattle.logs.specs.declared.messages.CacheInfo.{CacheInfo}
 use Rattle.logs.specs.declared.reservation.Reservation.{Reservation}
-use Rattle.logs.specs.Meaning.{State, pending, meets, met, Message, is_pending, is_live, both, either, is_at, same_ptr, sweep, settle, mark, named, dead, pending_at, live_at}
-use Rattle.logs.proofs.Laws.{both_no, eqb_refl, mark-none, mark_push, mark_empty}
+use Rattle.logs.specs.Meaning.{State, pending, meets, met, Message, is_pending, is_live, both, is_at, settle, mark, named, dead, live_at}
+use Rattle.logs.proofs.Laws.{both_no, mark-none, mark_push, mark_empty}
 use Rattle.logs.specs.declared.messages.Status.{Status}
 use Rattle.logs.specs.declared.messages.Status.TheVariants.{Pending, Live, Dead, Cancelled}
 use Rattle.logs.specs.declared.messages.Event.{Event}
@@ -15,7 +15,7 @@ use Rattle.logs.specs.declared.messages.Event.TheVariants.{Complete, Abort, Mark
 use Rattle.book.specs.declared.head.Head.{Head}
 use Rattle.book.specs.declared.book.Book.{Book}
 use Rattle.logs.specs.Meaning.{state_of}
-use Rattle.book.specs.Heads.{message, messages, with_status, bare, Ranked, ranked, payload_of}
+use Rattle.book.specs.Heads.{message, messages, with_status, bare, payload_of}
 use Rattle.book.specs.Books.{heads_of, mem_of, told, LiveIndex, PendingIndex, Kin, Restated, Met, Settles, Marks}
 use Rattle.book.proofs.Headers.{is-ranked, sweep-one, sweep_not, bare_set, ranked-within, ranked-small}
 

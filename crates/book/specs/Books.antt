@@ -2,10 +2,9 @@
 use Rattle.std.specs.Prelude.{◌≡◌, ℕ, ◌+◌, ◌^◌, ◌<◌, ◌≤◌, max, Bool, true, false, List, [], ◌∷◌, ◌++◌, length, get_or, Some, None, Ok, Err, vec_items, vec_len, vec_capacity, Option, Result, slice_index_or, slice_set}
 use Rattle.fault.specs.declared.disk_pointer.DiskPtr.{DiskPtr}
 use Rattle.logs.specs.declared.messages.CacheInfo.{CacheInfo}
-use Rattle.logs.specs.declared.log_fault.LogFault.{LogFault}
 use Rattle.logs.specs.declared.reservation.Reservation.{Reservation}
 use Rattle.logs.specs.declared.reservation.Returned.{Returned}
-use Rattle.logs.specs.Meaning.{State, Message, Meaning, state_of, met, pending, meets, any_pending, is_live, is_pending, same_ptr, live_at, pending_at, settle, mark}
+use Rattle.logs.specs.Meaning.{Message, Meaning, state_of, met, pending, meets, any_pending, is_live, is_pending, same_ptr, live_at, pending_at, settle, mark}
 use Rattle.logs.specs.Clauses.{NotTaken}
 use Rattle.logs.specs.declared.messages.Status.{Status}
 use Rattle.logs.specs.declared.messages.Status.TheVariants as status

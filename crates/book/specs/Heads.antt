@@ -1,5 +1,5 @@
 -- What a header means over a memory. Assumes nothing.
-use Rattle.std.specs.Prelude.{◌≡◌, ℕ, ◌+◌, ◌<◌, ◌≤◌, Bool, true, false, not, List, [], ◌∷◌, ◌++◌, length, take, drop, Some, None, Option, ◌≢◌, nat_le, nat_lt, slice_index_or}
+use Rattle.std.specs.Prelude.{◌≡◌, ℕ, ◌+◌, ◌<◌, ◌≤◌, Bool, true, not, List, [], ◌∷◌, length, take, drop, Some, None, Option, ◌≢◌, nat_le, nat_lt, slice_index_or}
 use Rattle.logs.specs.declared.messages.Status.{Status}
 use Rattle.logs.specs.declared.messages.Status.TheVariants as status
 use Rattle.book.specs.declared.head.Head.{Head}

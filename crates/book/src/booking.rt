@@ -9,8 +9,7 @@ ghost use Rattle.book.specs.Books.{told, heads_of, mem_of, LiveIndex, PendingInd
 use crate::book::Book;
 use crate::head::Head;
 use fault::{BytesFault, DiskPtr, PageId};
-use logs::{CacheInfo, Event, Kind, LogFault, Reservation, Returned, Status};
-use logs::Position;
+use logs::{CacheInfo, Event, Kind, LogFault, Position, Reservation, Returned, Status};
 
 pub fn is_pending(s: Status) -> bool
     ensures { result ≡ is_pending (state_of s) }

@@ -1,6 +1,5 @@
 use fault::{DiskPtr, PageId};
-use logs::{Kind, Status};
-use logs::Position;
+use logs::{Kind, Position, Status};
 
 // A message of a log: its payload is the `len` bytes at `at` of the log's memory.
 #[derive(Clone, Copy)]

@@ -1,4 +1,4 @@
-use Rattle.std.proofs.Common.{◌≡◌, ◌<◌, ◌≤◌, length, vec_items, sym, ◌∙◌, rules}
+use Rattle.std.proofs.Common.{◌<◌, ◌≤◌, length, vec_items, sym, ◌∙◌, rules}
 use Rattle.std.proofs.lemmas.List.Filters.{FiltersInPlace-more_no, FiltersInPlace-more_set, FiltersInPlace-all}
 use Rattle.book.proofs.booking.compact_heads.Goals as goal
 use Rattle.book.proofs.booking.compact_heads.Goals.{then-is_live, else-is_live}

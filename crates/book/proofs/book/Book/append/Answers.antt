@@ -1,6 +1,4 @@
-use Rattle.std.proofs.Common.{◌≡◌, ◌+◌, ◌<◌, ◌≤◌, true, List, [], ◌∷◌, ◌++◌, length, sym, refl, ap, ◌∙◌, arith, rules}
-use Rattle.book.specs.declared.head.Head.{Head}
-use Rattle.book.specs.Heads.{ranked}
+use Rattle.std.proofs.Common.{length, refl, arith}
 use Rattle.book.specs.Books.{heads_of, mem_of, new_head}
 use Rattle.book.proofs.Headers.{pushed_ranked, calm_push}
 use Rattle.book.proofs.book.Book.append.Goals as goal
@@ -8,7 +6,11 @@ use Rattle.book.proofs.book.Book.append.Goals as goal
 pub invariant_of-self : goal.invariant_of-self
 invariant_of-self c =
     let w = c.requires.within in
-    (omega arith, (pushed_ranked c.args.self.now.next (length (mem_of c.args.self.now)) (heads_of c.args.self.now) _ (new_head c.args.self.now.next c.args.page c.args.kind c.args.pointer c.args.at c.args.len) c.push_reserved.ensures.items c.args.self.now.first refl w c.requires.small c.args.self.now.ranks, (rw c.push_reserved.ensures.items (calm_push (mem_of c.args.self.now) (heads_of c.args.self.now) _ c.requires.quiet), tt)))
+    record {
+      first = omega arith;
+      ranks = pushed_ranked c.args.self.now.next (length (mem_of c.args.self.now)) (heads_of c.args.self.now) _ (new_head c.args.self.now.next c.args.page c.args.kind c.args.pointer c.args.at c.args.len) c.push_reserved.ensures.items c.args.self.now.first refl w c.requires.small c.args.self.now.ranks;
+      last = rw c.push_reserved.ensures.items (calm_push (mem_of c.args.self.now) (heads_of c.args.self.now) _ c.requires.quiet);
+    }
 
 pub returns : goal.returns
 returns c = record { number = refl; stable = refl; next = refl; mem = refl; heads = c.push_reserved.ensures.items; cap = c.push_reserved.ensures.capacity; mine = c.new.ensures.0; lsn = c.new.ensures.1; pointer = c.new.ensures.2 }

@@ -1,4 +1,4 @@
-use Rattle.std.proofs.Common.{◌+◌, ◌-◌, ◌/◌, ◌<◌, ◌≤◌, length, arith, rules}
+use Rattle.std.proofs.Common.{◌+◌, ◌-◌, ◌/◌, ◌<◌, length, rules}
 use Rattle.book.specs.Books.{heads_of, mem_of}
 use Rattle.book.proofs.Headers.{low_side, high_side}
 use Rattle.book.proofs.book.Book.find.Goals as goal

@@ -1,4 +1,4 @@
-use Rattle.std.proofs.Common.{◌≡◌, length, sym, ◌∙◌, rules}
+use Rattle.std.proofs.Common.{length, sym, ◌∙◌}
 use Rattle.book.specs.Books.{heads_of, mem_of}
 use Rattle.book.proofs.Headers.{is-ranked, live_absent, live-found, live_not, live_askew}
 use Rattle.book.proofs.book.Book.live_at.Goals as goal

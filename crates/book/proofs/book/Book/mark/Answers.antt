@@ -1,6 +1,4 @@
-use Rattle.std.proofs.Common.{get_or, take}
 use Rattle.std.proofs.lemmas.List.{take_more, take_all}
-use Rattle.fault.specs.declared.disk_pointer.DiskPtr.TheVariants.{Inline}
 use Rattle.book.proofs.Pages.{marks_none, marks_more, marks_all}
 use Rattle.book.proofs.book.Book.mark.Goals as goal
 

@@ -1,4 +1,4 @@
-use Rattle.std.proofs.Common.{◌≡◌, ℕ, true, List, length, sym, refl, ap, ◌∙◌, rules}
+use Rattle.std.proofs.Common.{◌≡◌, ℕ, List, length, refl, ap, ◌∙◌, rules}
 use borrow.Rule.Slice.PartMut.{put_mid}
 use Rattle.std.specs.Vec.{with_items}
 use Rattle.std.proofs.lemmas.List.{with_items_is}
@@ -11,7 +11,11 @@ invariant_of-self c =
     let l : length c.put_in.new.mem ≡ c.args.self.now.mem.len = search rules in
     let m : length c.put_in.new.mem ≡ length (mem_of c.args.self.now) = search rules in
     let e : length (with_items c.args.self.now.mem c.put_in.new.mem).items ≡ length (mem_of c.args.self.now) = ap length (with_items_is c.args.self.now.mem c.put_in.new.mem l) ∙ m in
-    (c.args.self.now.first, (ap (λ (n : ℕ). ranked 0 c.args.self.now.next n (heads_of c.args.self.now)) e ∙ c.args.self.now.ranks, (c.args.self.now.last, tt)))
+    record {
+      first = c.args.self.now.first;
+      ranks = ap (λ (n : ℕ). ranked 0 c.args.self.now.next n (heads_of c.args.self.now)) e ∙ c.args.self.now.ranks;
+      last = c.args.self.now.last;
+    }
 
 pub returns : goal.returns
 returns c =

@@ -1,7 +1,7 @@
 -- What is read is the payload of the live message, out of the memory.
-use Rattle.std.proofs.Common.{◌≡◌, ℕ, ◌+◌, ◌<◌, ◌≤◌, List, ◌++◌, length, take, drop, sym, refl, ap, ◌∙◌, arith, rules}
-use Rattle.book.specs.Heads.{message, payload_of}
-use Rattle.book.specs.Books.{mem_of, heads_of}
+use Rattle.std.proofs.Common.{ℕ, List, ◌++◌, length, take, drop, refl, ap, ◌∙◌, arith}
+use Rattle.book.specs.Heads.{message}
+use Rattle.book.specs.Books.{mem_of}
 use Rattle.book.proofs.Pages.{payload-long, payload-small, found-there}
 use Rattle.book.proofs.book.Book.read.Goals as goal
 

@@ -1,5 +1,5 @@
 -- The reservation is spent on its own pending message, or given back.
-use Rattle.std.proofs.Common.{◌≡◌, ℕ, false, Some, None, sym, refl, ap, ◌∙◌, subst}
+use Rattle.std.proofs.Common.{◌≡◌, ℕ, false, Some, sym, refl, subst}
 use Rattle.fault.specs.declared.disk_pointer.DiskPtr.{DiskPtr}
 use Rattle.logs.specs.Meaning.{pending_at}
 use Rattle.book.specs.Books.{heads_of, mem_of, told, PendingIndex}
