@@ -1,20 +1,28 @@
 -- What a tape keeps, and what fits it. Assumes nothing.
-use Rattle.std.proofs.Common.{◌≡◌, ℕ, ◌+◌, ◌*◌, ◌^◌, ◌<◌, ◌≤◌, Bool, true, false, ltb, leb, List, [], ◌∷◌, ◌++◌, length, vec_items, vec_len, vec_capacity, sym, refl, ap, ◌∙◌, subst, arith, ltb-true, leb-true}
+use Rattle.std.proofs.Common.{◌≡◌, ℕ, ◌+◌, ◌*◌, ◌^◌, ◌<◌, ◌≤◌, true, false, leb, List, [], ◌∷◌, ◌++◌, length, vec_items, vec_len, vec_capacity, ap, ◌∙◌, arith, ltb-true, leb-true}
 use Rattle.std.proofs.lemmas.List.{length-append, length_push}
 use Rattle.fault.specs.declared.disk_pointer.DiskPtr.{DiskPtr}
 use Rattle.logs.specs.declared.messages.Kind.{Kind}
 use Rattle.logs.specs.declared.reservation.Reservation.{Reservation}
-use Rattle.logs.specs.Meaning.{both, any_pending, is_blob}
+use Rattle.logs.specs.Meaning.{any_pending, is_blob}
 use Rattle.book.specs.declared.book.Book.{Book}
 use Rattle.book.specs.Heads.{inlined, messages}
 use Rattle.book.specs.Books.{heads_of, mem_of, told, Kin, Ready, Extended, Appended, new_head}
 use Rattle.book.proofs.Headers.{both_0, both_1, is-ranked}
 use Rattle.book.proofs.Logs.{kin-length, kin-inlined, inlined_push, messages-grown}
+use Rattle.tape.specs.declared.tape.Tape.{Tape}
 use Rattle.tape.specs.Tapes.{used_by, tape_fits}
 
 -- what a tape of so many bytes keeps of its book
-abbrev pub Keeps : ℕ → Book → Type 0
-Keeps room b = (inlined (heads_of b) ≡ true) × ((room ≤ 2 ^ 32) × ((32 * length (heads_of b) + length (mem_of b) ≤ room) × ((room ≤ 32 * vec_capacity b.heads) × ((room ≤ vec_capacity b.mem) × Unit {0}))))
+pub record Keeps (room : ℕ) (b : Book) : Type 0 where
+  pub plain : inlined (heads_of b) ≡ true
+  pub short : room ≤ 2 ^ 32
+  pub used : 32 * length (heads_of b) + length (mem_of b) ≤ room
+  pub wide : room ≤ 32 * vec_capacity b.heads
+  pub deep : room ≤ vec_capacity b.mem
+
+pub kept : (t : Tape) → Keeps t.room t.book
+kept t = record { plain = t.plain; short = t.short; used = t.used; wide = t.wide; deep = t.deep }
 
 -- a change of states keeps it
 pub kin_keeps : {b c : Book} (room : ℕ) → Kin b c → Keeps room b → Keeps room c
@@ -23,10 +31,10 @@ kin_keeps {b = b} {c = c} room k h =
     let m = ap (λ v. length (vec_items v)) k.mem in
     let v = ap vec_capacity k.mem in
     let u = k.cap in
-    let used = h.1.1.0 in
-    let wide = h.1.1.1.0 in
-    let deep = h.1.1.1.1.0 in
-    (kin-inlined k h.0, (h.1.0, (omega arith, (omega arith, (omega arith, tt)))))
+    let used = h.used in
+    let wide = h.wide in
+    let deep = h.deep in
+    record { plain = kin-inlined k h.plain; short = h.short; used = omega arith; wide = omega arith; deep = omega arith }
 
 -- what fits
 pub record Room (room : ℕ) (b : Book) (n : ℕ) : Type 0 where
@@ -48,7 +56,7 @@ module _ (room : ℕ) (b c : Book) (bytes : List ℕ) (f : Room room b (length b
   pub can_extend : vec_len b.mem + length bytes ≤ vec_capacity b.mem
   can_extend =
       let l = b.mem.ok.0 in
-      let deep = h.1.1.1.1.0 in
+      let deep = h.deep in
       omega (arith, f.behind)
 
   module _ (e : Extended b c bytes) (quiet : any_pending (told b) ≡ false) (at : ℕ) (w : at ≡ length (mem_of b)) where
@@ -61,7 +69,7 @@ module _ (room : ℕ) (b c : Book) (bytes : List ℕ) (f : Room room b (length b
     ready =
         let l : length (mem_of c) ≡ length (mem_of b) + length bytes = ap length e.mem ∙ length-append (mem_of b) bytes in
         let n = b.heads.ok.0 in
-        let wide = h.1.1.1.0 in
+        let wide = h.wide in
         record {
           quiet = ap any_pending still ∙ quiet;
           room = rw e.heads (omega (arith, f.behind));
@@ -79,6 +87,12 @@ module _ (room : ℕ) (b c : Book) (bytes : List ℕ) (f : Room room b (length b
         let u : vec_capacity d.heads ≡ vec_capacity b.heads = a.cap ∙ ap vec_capacity e.heads in
         let v : vec_capacity d.mem ≡ vec_capacity c.mem = ap vec_capacity a.mem in
         let grown = e.cap in
-        let wide = h.1.1.1.0 in
-        let deep = h.1.1.1.1.0 in
-        (rw g (inlined_push (heads_of b) x plain h.0), (h.1.0, (omega (arith, f.behind), (omega arith, (omega arith, tt)))))
+        let wide = h.wide in
+        let deep = h.deep in
+        record {
+          plain = rw g (inlined_push (heads_of b) x plain h.plain);
+          short = h.short;
+          used = let used = h.used in omega (arith, f.behind);
+          wide = omega arith;
+          deep = omega arith;
+        }

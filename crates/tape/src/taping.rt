@@ -5,9 +5,8 @@ ghost use Rattle.tape.specs.Tapes.{tape_means, tape_fits, empty_tape};
 use crate::tape::Tape;
 use book::{Book, Head};
 use fault::{DiskPtr, LogOffset, PageId};
-use logs::{CacheInfo, Event, Kind, Log, LogFault, Reservation, Returned};
+use logs::{CacheInfo, Event, Kind, Log, LogFault, Position, Reservation, Returned};
 use std::alloc::{AllocError, Global};
-use logs::Position;
 
 impl Tape {
     // An empty tape with this number, of so many bytes.

@@ -1,9 +1,9 @@
-use Rattle.std.proofs.Common.{◌≡◌, ℕ, false, length, sym, refl, ap, ◌∙◌, rules}
+use Rattle.std.proofs.Common.{◌≡◌, false, length, sym, refl, ◌∙◌, rules}
 use Rattle.fault.specs.declared.disk_pointer.DiskPtr.TheVariants.{Inline}
 use Rattle.book.specs.Books.{mem_of}
 use Rattle.book.proofs.Logs.{tape_reserved}
 use Rattle.tape.specs.Tapes.{tape_fits}
-use Rattle.tape.proofs.Tapes.{fitting, ready, keeps_on}
+use Rattle.tape.proofs.Tapes.{kept, fitting, ready, keeps_on}
 use Rattle.tape.proofs.taping.TapeLog.reserve.Goals as goal
 
 pub append-reservation-requires : goal.append-reservation-requires
@@ -12,7 +12,7 @@ append-reservation-requires c =
     let bytes = c.args.payload.now in
     let f = fitting t.room t.book (length bytes) (sym c.fits.ensures ∙ c.if-not-fits.false) in
     let w : c.len-at.result ≡ length (mem_of t.book) = search rules in
-    ready t.room t.book c.extend.new.self bytes f (t.plain, (t.short, (t.used, (t.wide, (t.deep, tt))))) c.extend.ensures (sym c.any_pending.ensures ∙ c.if-any_pending.false) c.len-at.result w
+    ready t.room t.book c.extend.new.self bytes f (kept t) c.extend.ensures (sym c.any_pending.ensures ∙ c.if-any_pending.false) c.len-at.result w
 
 pub invariant_of-self : goal.invariant_of-self
 invariant_of-self c =
@@ -20,7 +20,8 @@ invariant_of-self c =
     let bytes = c.args.payload.now in
     let f = fitting t.room t.book (length bytes) (sym c.fits.ensures ∙ c.if-not-fits.false) in
     let w : c.len-at.result ≡ length (mem_of t.book) = search rules in
-    keeps_on t.room t.book c.extend.new.self bytes f (t.plain, (t.short, (t.used, (t.wide, (t.deep, tt))))) c.extend.ensures (sym c.any_pending.ensures ∙ c.if-any_pending.false) c.len-at.result w c.append-reservation.new.self c.args.pid c.args.kind (Inline _) c.append-reservation.result refl c.append-reservation.ensures
+    let k = keeps_on t.room t.book c.extend.new.self bytes f (kept t) c.extend.ensures (sym c.any_pending.ensures ∙ c.if-any_pending.false) c.len-at.result w c.append-reservation.new.self c.args.pid c.args.kind (Inline _) c.append-reservation.result refl c.append-reservation.ensures in
+    record { plain = k.plain; short = k.short; used = k.used; wide = k.wide; deep = k.deep }
 
 pub returns : goal.returns
 returns c =
