@@ -12,8 +12,15 @@ use Rattle.segmented.proofs.Counting.{packed-lives, packed_open, packed_push, pa
 use Rattle.segmented.proofs.Laying.{laid_push, laid-bare, laid-lives, laid_open, vacant_lives}
 use Rattle.segmented.proofs.Putting.{not_true}
 
-abbrev pub Keeps : ℕ → ℕ → ℕ → ℕ → Book → Type 0
-Keeps segs slots a f b = (segs ≤ 65536) × ((slots ≤ 65536) × ((length (mem_of b) ≡ segs * 4096 + slots * 1152) × ((a < segs) × ((f ≤ 4096) × ((segs * 128 ≤ vec_capacity b.heads) × (((q : ℕ) → count_seg q (heads_of b) * 32 ≤ share a f q) × ((laid segs slots a f (heads_of b) ≡ true) × Unit {0})))))))
+pub record Keeps (segs slots a f : ℕ) (b : Book) : Type 0 where
+  pub few : segs ≤ 65536
+  pub slim : slots ≤ 65536
+  pub sized : length (mem_of b) ≡ segs * 4096 + slots * 1152
+  pub inside : a < segs
+  pub filled : f ≤ 4096
+  pub roomy : segs * 128 ≤ vec_capacity b.heads
+  pub packed : (q : ℕ) → count_seg q (heads_of b) * 32 ≤ share a f q
+  pub lay : laid segs slots a f (heads_of b) ≡ true
 
 module _ (s : Segmented) (c : Book) where
   -- only states have changed
@@ -21,14 +28,32 @@ module _ (s : Segmented) (c : Book) where
   kin_keeps k =
       let sized = ap (λ v. length (vec_items v)) k.mem ∙ s.sized in
       let lay = sym (laid-bare s.segs s.slots s.active s.fill (heads_of c)) ∙ ap (laid s.segs s.slots s.active s.fill) k.heads ∙ laid-bare s.segs s.slots s.active s.fill (heads_of s.book) ∙ s.lay in
-      (s.few, (s.slim, (sized, (s.inside, (s.filled, (rw k.cap s.roomy, (packed-kin s.active s.fill (heads_of s.book) (heads_of c) k.heads s.packed, (lay, tt))))))))
+      record {
+        few = s.few;
+        slim = s.slim;
+        sized = sized;
+        inside = s.inside;
+        filled = s.filled;
+        roomy = rw k.cap s.roomy;
+        packed = packed-kin s.active s.fill (heads_of s.book) (heads_of c) k.heads s.packed;
+        lay = lay;
+      }
 
   -- dead and cancelled messages have left
   pub lives_keeps : Compacted s.book c → Keeps s.segs s.slots s.active s.fill c
   lives_keeps e =
       let sized = ap (λ v. length (vec_items v)) e.mem ∙ s.sized in
       let lay : laid s.segs s.slots s.active s.fill (heads_of c) ≡ true = rw e.heads (laid-lives s.segs s.slots s.active s.fill (heads_of s.book) s.lay) in
-      (s.few, (s.slim, (sized, (s.inside, (s.filled, (rw e.cap s.roomy, (packed-lives s.active s.fill _ _ e.heads s.packed, (lay, tt))))))))
+      record {
+        few = s.few;
+        slim = s.slim;
+        sized = sized;
+        inside = s.inside;
+        filled = s.filled;
+        roomy = rw e.cap s.roomy;
+        packed = packed-lives s.active s.fill _ _ e.heads s.packed;
+        lay = lay;
+      }
 
   -- they have left, and a free segment is active
   pub open_keeps : Compacted s.book c → (b : ℕ) → b < s.segs → free_seg s.active (heads_of s.book) b ≡ true → Keeps s.segs s.slots b 0 c
@@ -39,11 +64,29 @@ module _ (s : Segmented) (c : Book) where
       let lay : laid s.segs s.slots b 0 (heads_of c) ≡ true = rw e.heads (laid_open s.segs s.slots s.active s.fill b (lives hs) s.filled v (laid-lives s.segs s.slots s.active s.fill hs s.lay)) in
       let packed : (q : ℕ) → count_seg q (heads_of c) * 32 ≤ share b 0 q =
       λ q. rw e.heads (packed_open s.active s.fill b (lives hs) s.filled v (packed-lives s.active s.fill hs (lives hs) refl s.packed) q) in
-      (s.few, (s.slim, (sized, (i, (omega arith, (rw e.cap s.roomy, (packed, (lay, tt))))))))
+      record {
+        few = s.few;
+        slim = s.slim;
+        sized = sized;
+        inside = i;
+        filled = omega arith;
+        roomy = rw e.cap s.roomy;
+        packed = packed;
+        lay = lay;
+      }
 
   -- one more message lies in the active segment
   pub push_keeps : (x : Head) (g : ℕ) → heads_of c ≡ heads_of s.book ++ (x ∷ []) → length (mem_of c) ≡ length (mem_of s.book) → vec_capacity c.heads ≡ vec_capacity s.book.heads
       → lid_of x.pointer / 4096 ≡ s.active → s.fill + 32 ≤ g → g ≤ 4096 → placed s.segs s.slots s.active g x ≡ true → Keeps s.segs s.slots s.active g c
   push_keeps x g e m k at l n p =
       let lay : laid s.segs s.slots s.active g (heads_of c) ≡ true = rw e (laid_push s.segs s.slots s.active s.fill g (heads_of s.book) x (omega arith) p s.lay) in
-      (s.few, (s.slim, (m ∙ s.sized, (s.inside, (n, (rw k s.roomy, (packed_push s.active s.fill g (heads_of s.book) (heads_of c) x e at l s.packed, (lay, tt))))))))
+      record {
+        few = s.few;
+        slim = s.slim;
+        sized = m ∙ s.sized;
+        inside = s.inside;
+        filled = n;
+        roomy = rw k s.roomy;
+        packed = packed_push s.active s.fill g (heads_of s.book) (heads_of c) x e at l s.packed;
+        lay = lay;
+      }

@@ -1,6 +1,7 @@
 -- Where messages lie, and that a new one lies apart. Assumes nothing.
 use Rattle.std.proofs.Common.{◌≡◌, ℕ, zero, suc, ◌+◌, ◌-◌, ◌*◌, ◌/◌, ◌^◌, ◌<◌, ◌≤◌, Bool, true, false, cond, not, eqb, ltb, leb, ◌⊎◌, List, [], ◌∷◌, ◌++◌, length, get_or, take, drop, sym, refl, ap, ◌∙◌, subst, inl, inr, add-one, arith, ltb-true, lt-ltb, eq-eqb, ne_eqb, eqb-true, le-leb, leb-true}
 use borrow.Rule.Slice.PartMut.{put_mid}
+use Rattle.std.specs.Prelude.{pos, negsuc}
 use Rattle.std.proofs.lemmas.Bool.{cases_lt, cases_eq}
 use Rattle.std.proofs.lemmas.List.{drop-take, length-append}
 use Rattle.std.proofs.lemmas.Slice.{take-put_mid_below, drop-put_mid, between-put_mid}
@@ -155,7 +156,8 @@ Apart_inline segs slots a f n (Inline x) at len i r s u t = go (cases_eq (x / 40
     go (inl q) z = inl (omega (arith, e, limit-here a f (x / 4096) q))
     go (inr q) (inl z) = inl (omega (arith, e, limit-there a f (x / 4096) q))
     go (inr q) (inr z) = inr (omega (arith, e, q))
-Apart_inline segs slots a f n (Blob x j) at len i r s u t =
+Apart_inline segs slots a f n (Blob x (negsuc j)) at len i r s u t = absurd (let z : ◌≡◌ {A = ℕ} 0 1 = cc in omega arith)
+Apart_inline segs slots a f n (Blob x (pos j)) at len i r s u t =
     let b = both_1 (ltb j slots) _ t in
     let e : at ≡ segs * 4096 + j * 1152 = eqb-true at (segs * 4096 + j * 1152) (both_0 (eqb at (segs * 4096 + j * 1152)) _ b) in
     inr (omega arith)
@@ -171,7 +173,8 @@ Apart-blob segs slots a f n i (Inline x) at len l m v s u t =
     let e : at ≡ x + 32 = eqb-true at (x + 32) t in
     let w = limit-most a f (x / 4096) l in
     inl (omega arith)
-Apart-blob segs slots a f n i (Blob x j) at len l m v s u t = go (cases_lt j i)
+Apart-blob segs slots a f n i (Blob x (negsuc j)) at len l m v s u t = absurd (let z : ◌≡◌ {A = ℕ} 0 1 = cc in omega arith)
+Apart-blob segs slots a f n i (Blob x (pos j)) at len l m v s u t = go (cases_lt j i)
   where
     b : both (eqb at (segs * 4096 + j * 1152)) (leb len 1152) ≡ true
     b = both_1 (ltb j slots) _ t

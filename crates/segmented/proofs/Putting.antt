@@ -1,6 +1,9 @@
 -- What one more message does. Assumes nothing.
 use Rattle.std.proofs.Common.{◌≡◌, ℕ, zero, suc, ◌+◌, ◌-◌, ◌*◌, ◌/◌, ◌^◌, ◌<◌, ◌≤◌, Bool, true, false, cond, not, eqb, ltb, leb, ◌⊎◌, List, [], ◌∷◌, ◌++◌, length, get_or, take, drop, is_some, Some, None, vec_items, vec_len, vec_capacity, sym, refl, ap, ◌∙◌, subst, inl, inr, arith, ltb-true, lt-ltb, eq-eqb, ne_eqb, eqb-true, le-leb, leb-true}
 use borrow.Rule.Slice.PartMut.{put_mid}
+use Rattle.std.specs.Prelude.{pos, negsuc}
+use Rattle.std.proofs.lemmas.Cmp.{int_eq_equiv}
+use Rattle.std.proofs.lemmas.Bool.Decides.{Decides-int_eq}
 use Rattle.std.proofs.lemmas.List.{length-take, length-drop}
 use Rattle.logs.specs.declared.messages.Kind.{Kind}
 use Rattle.fault.specs.declared.disk_pointer.DiskPtr.{DiskPtr}
@@ -13,6 +16,7 @@ use Rattle.book.specs.declared.book.Book.{Book}
 use Rattle.logs.specs.Meaning.{state_of}
 use Rattle.book.specs.Heads.{message, messages, bare, lives, live_head, payload_of}
 use Rattle.book.specs.Books.{heads_of, mem_of, told, new_head, book_means, Ready, Appended, Overwritten, Compacted, Kin, LiveIndex}
+use Rattle.logs.proofs.Laws.{both_no}
 use Rattle.book.proofs.Pages.{found-there, no_head}
 use Rattle.book.proofs.Headers.{both_0, both_1, both_yes, is-ranked, messages_push, messages_below, sheds-none}
 use Rattle.segmented.specs.declared.segmented.Segmented.{Segmented}
@@ -93,10 +97,10 @@ new_inline segs slots a f l p k n i h =
     let x = new_head l p k (Inline (a * 4096 + f)) (a * 4096 + f + 32) n in
     to_placed segs slots a (f + (32 + n)) x (rw q i) (omega (arith, limit-here a (f + (32 + n)) ((a * 4096 + f) / 4096) q)) (eq-eqb (a * 4096 + f + 32) (a * 4096 + f + 32) refl)
 
-pub new_blob : (segs slots a f l p : ℕ) (k : Kind) (n i : ℕ) → a < segs → f + 32 ≤ 4096 → n ≤ 1152 → i < slots → placed segs slots a (f + 32) (new_head l p k (Blob (a * 4096 + f) i) (segs * 4096 + i * 1152) n) ≡ true
+pub new_blob : (segs slots a f l p : ℕ) (k : Kind) (n i : ℕ) → a < segs → f + 32 ≤ 4096 → n ≤ 1152 → i < slots → placed segs slots a (f + 32) (new_head l p k (Blob (a * 4096 + f) (pos i)) (segs * 4096 + i * 1152) n) ≡ true
 new_blob segs slots a f l p k n i j h m v =
     let q : (a * 4096 + f) / 4096 ≡ a = omega arith in
-    let x = new_head l p k (Blob (a * 4096 + f) i) (segs * 4096 + i * 1152) n in
+    let x = new_head l p k (Blob (a * 4096 + f) (pos i)) (segs * 4096 + i * 1152) n in
     to_placed segs slots a (f + 32) x (rw q j) (omega (arith, limit-here a (f + 32) ((a * 4096 + f) / 4096) q)) (rw (lt-ltb i slots v, eq-eqb (segs * 4096 + i * 1152) (segs * 4096 + i * 1152) refl) (le-leb n 1152 m))
 
 pub not_true : (b : Bool) → not b ≡ true → b ≡ false
@@ -172,8 +176,8 @@ point_put s d p k o at n r a l u e =
       after = ap told e ∙ appended_told s.book d p k o at n r a ∙ ap (λ (m : Message). told s.book ++ (m ∷ [])) (new_message s.book d p k (take n (drop at (mem_of s.book))) o at n r a refl z);
     }
 
-pub point_same : (y i : ℕ) (r : Reservation) → r.pointer ≡ Blob y i → (x : ℕ) → same_blob r.pointer (Blob x i) ≡ true
-point_same y i r e x = rw e (eq-eqb i i refl)
+pub point_same : (y i : ℕ) (r : Reservation) → r.pointer ≡ Blob y (pos i) → (x : ℕ) → same_blob r.pointer (Blob x (pos i)) ≡ true
+point_same y i r e x = rw e (int_eq_equiv.refl (pos i))
 
 -- what fits
 pub fits_inline : (segs slots a f : ℕ) (b : Book) (n : ℕ) (v : Bool) → n ≤ 512 → ready segs a f b (32 + n) ≡ v → seg_fits segs slots a f b n ≡ v
@@ -250,22 +254,23 @@ same_slot i (Inline x) (Inline y) h k = k
 same_slot i (Inline x) (Blob y j) h k = h
 same_slot i (Blob x l) (Inline y) h k = absurd (let z : ◌≡◌ {A = ℕ} 0 1 = cc in omega arith)
 same_slot i (Blob x l) (Blob y j) h k =
-    let a : l ≡ j = eqb-true l j (both_1 (eqb x y) _ h) in
-    let b : j ≡ i = eqb-true j i k in
-    eq-eqb l i (a ∙ b)
+    let a : l ≡ j = (Decides-int_eq l j).0 (both_1 (eqb x y) _ h) in
+    rw a k
 
 pub home_slot : (segs slots i : ℕ) (o : DiskPtr) (at n : ℕ) → slot_is i o ≡ true → homed segs slots o at n ≡ true → (i < slots) × (at ≡ segs * 4096 + i * 1152) × (n ≤ 1152)
 home_slot segs slots i (Inline x) at n k t = absurd (let z : ◌≡◌ {A = ℕ} 0 1 = cc in omega arith)
-home_slot segs slots i (Blob x j) at n k t =
+home_slot segs slots i (Blob x (negsuc j)) at n k t = absurd (let z : ◌≡◌ {A = ℕ} 0 1 = cc in omega arith)
+home_slot segs slots i (Blob x (pos j)) at n k t =
     let e : j ≡ i = eqb-true j i k in
     let b = both_1 (ltb j slots) _ t in
     let l = ltb-true j slots (both_0 (ltb j slots) _ t) in
     let w = eqb-true at (segs * 4096 + j * 1152) (both_0 (eqb at (segs * 4096 + j * 1152)) _ b) in
     (omega arith, omega arith, leb-true n 1152 (both_1 (eqb at (segs * 4096 + j * 1152)) _ b))
 
-pub same-blob-at : (i : ℕ) (r o : DiskPtr) → slot_is i o ≡ true → ((x : ℕ) → same_blob r (Blob x i) ≡ true) → same_blob r o ≡ true
+pub same-blob-at : (i : ℕ) (r o : DiskPtr) → slot_is i o ≡ true → ((x : ℕ) → same_blob r (Blob x (pos i)) ≡ true) → same_blob r o ≡ true
 same-blob-at i r (Inline x) k f = absurd (let z : ◌≡◌ {A = ℕ} 0 1 = cc in omega arith)
-same-blob-at i r (Blob x j) k f = let e : j ≡ i = eqb-true j i k in rw e (f x)
+same-blob-at i r (Blob x (negsuc j)) k f = absurd (let z : ◌≡◌ {A = ℕ} 0 1 = cc in omega arith)
+same-blob-at i r (Blob x (pos j)) k f = let e : j ≡ i = eqb-true j i k in rw e (f x)
 
 pub blob-home : (s : Segmented) (l : ℕ) (o : DiskPtr) (i j : ℕ) (x : Head) → LiveIndex (mem_of s.book) (heads_of s.book) l o (Some j) → x ≡ get_or (heads_of s.book) j x → slot_is i o ≡ true → (i < s.slots) × (x.at ≡ s.segs * 4096 + i * 1152) × (x.len ≤ 1152)
 blob-home s l o i j x h at k =
@@ -278,7 +283,7 @@ blob-there b l o j x h at k = both_yes (is_blob o) _ k (ap is_some (found-there 
 
 pub moved : (s t u : Segmented) (p l : ℕ) (o : DiskPtr) (i j : ℕ) (x : Head) (r : Reservation) → LiveIndex (mem_of s.book) (heads_of s.book) l o (Some j) → x ≡ get_or (heads_of s.book) j x → is_blob o ≡ true → slot_is i o ≡ true
     → any_pending (told s.book) ≡ false → Prepared s t 32 → ready s.segs s.active s.fill s.book 32 ≡ true
-    → Put t u p x.kind (take x.len (drop (t.segs * 4096 + i * 1152) (mem_of t.book))) r → ((y : ℕ) → same_blob r.pointer (Blob y i) ≡ true) → Moved (seg_means s) (seg_means u) p l o r
+    → Put t u p x.kind (take x.len (drop (t.segs * 4096 + i * 1152) (mem_of t.book))) r → ((y : ℕ) → same_blob r.pointer (Blob y (pos i)) ≡ true) → Moved (seg_means s) (seg_means u) p l o r
 moved s t u p l o i j x r h at bl sl quiet a fits put same =
     let w = blob-home s l o i j x h at sl in
     let e : take x.len (drop (t.segs * 4096 + i * 1152) (mem_of t.book)) ≡ payload_of (mem_of s.book) x =
@@ -292,6 +297,27 @@ moved s t u p l o i j x r h at bl sl quiet a fits put same =
       same = same-blob-at i r.pointer o sl same;
       reserved = reserved s t u p x.kind (payload_of (mem_of s.book) x) 32 (ready s.segs s.active s.fill s.book 32) r quiet fits small a (subst P e put);
     }
+
+-- no message has a slot below 0
+live-below : (segs slots a f : ℕ) (mem : List ℕ) (hs : List Head) (l x i : ℕ) → laid segs slots a f hs ≡ true → live_at (messages mem hs) l (Blob x (negsuc i)) ≡ None
+live-below segs slots a f mem [] l x i t = refl
+live-below segs slots a f mem (h ∷ hs) l x i t = at (live-below segs slots a f mem hs l x i (both_1 (placed segs slots a f h) _ t)) h.pointer refl
+  where
+    here : homed segs slots h.pointer h.at h.len ≡ true
+    here = home segs slots a f h (both_0 (placed segs slots a f h) _ t)
+
+    at : live_at (messages mem hs) l (Blob x (negsuc i)) ≡ None → (o : DiskPtr) → h.pointer ≡ o → live_at (messages mem (h ∷ hs)) l (Blob x (negsuc i)) ≡ None
+    at rest (Inline y) e = rw (e, both_no (eqb h.lsn l), both_no (is_live (state_of h.status))) rest
+    at rest (Blob y (pos j)) e = rw (e, both_no (eqb y x), both_no (eqb h.lsn l), both_no (is_live (state_of h.status))) rest
+    at rest (Blob y (negsuc j)) e =
+        let q : homed segs slots (Blob y (negsuc j)) h.at h.len ≡ true = rw e at here in
+        absurd (let z : ◌≡◌ {A = ℕ} 0 1 = cc in omega arith)
+
+-- a pointer without a slot is no live blob's
+pub no_slot : (s : Segmented) (l : ℕ) (o : DiskPtr) → ((i : ℕ) → slot_is i o ≡ false) → blob_there (told s.book) l o ≡ false
+no_slot s l (Inline x) n = refl
+no_slot s l (Blob x (pos i)) n = let z : true ≡ false = sym (eq-eqb i i refl) ∙ n i in absurd (let y : ◌≡◌ {A = ℕ} 0 1 = cc in omega arith)
+no_slot s l (Blob x (negsuc i)) n = ap is_some (live-below s.segs s.slots s.active s.fill (mem_of s.book) (heads_of s.book) l x i s.lay)
 
 pub there-blob : (b : Book) (l : ℕ) (o : DiskPtr) (j : ℕ) → LiveIndex (mem_of b) (heads_of b) l o (Some j) → is_blob o ≡ true → blob_there (told b) l o ≡ true
 there-blob b l o j h k = both_yes (is_blob o) _ k (ap is_some (h.1 no_head).3)

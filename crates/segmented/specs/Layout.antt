@@ -1,5 +1,5 @@
 -- Where the messages of a segmented log lie. Assumes nothing.
-use Rattle.std.specs.Prelude.{◌≡◌, ℕ, zero, suc, ◌+◌, ◌*◌, ◌/◌, ◌<◌, ◌≤◌, Bool, true, false, cond, not, ◌⊎◌, List, [], ◌∷◌, ◌++◌, Some, None, Option, ◌==◌, ◌≢◌, nat_le, nat_lt}
+use Rattle.std.specs.Prelude.{◌≡◌, ℕ, pos, negsuc, zero, suc, ◌+◌, ◌*◌, ◌/◌, ◌<◌, ◌≤◌, Bool, true, false, cond, not, ◌⊎◌, List, [], ◌∷◌, ◌++◌, Some, None, Option, ◌==◌, ◌≢◌, nat_le, nat_lt}
 use Rattle.fault.specs.declared.disk_pointer.DiskPtr.{DiskPtr}
 use Rattle.fault.specs.declared.disk_pointer.DiskPtr.TheVariants.{Inline, Blob}
 use Rattle.fault.specs.Pointers.{lid_of}
@@ -17,10 +17,11 @@ foot_of (Blob x i) n = 32
 abbrev pub limit : ℕ → ℕ → ℕ → ℕ
 limit a f q = q * 4096 + cond (q == a) f 4096
 
--- the payload of an inline message follows its header, and a blob's is in its slot
+-- the payload of an inline message follows its header, and a blob's is in its slot, which is never negative
 abbrev pub homed : ℕ → ℕ → DiskPtr → ℕ → ℕ → Bool
 homed segs slots (Inline x) at n = at == x + 32
-homed segs slots (Blob x i) at n = both (nat_lt i slots) (both (at == segs * 4096 + i * 1152) (nat_le n 1152))
+homed segs slots (Blob x (negsuc i)) at n = false
+homed segs slots (Blob x (pos i)) at n = both (nat_lt i slots) (both (at == segs * 4096 + i * 1152) (nat_le n 1152))
 
 abbrev pub placed : ℕ → ℕ → ℕ → ℕ → Head → Bool
 placed segs slots a f h = both (nat_lt (lid_of h.pointer / 4096) segs) (both (nat_le (lid_of h.pointer + foot_of h.pointer h.len) (limit a f (lid_of h.pointer / 4096))) (homed segs slots h.pointer h.at h.len))
@@ -42,7 +43,8 @@ in_seg q h = lid_of h.pointer / 4096 == q
 
 abbrev pub slot_is : ℕ → DiskPtr → Bool
 slot_is i (Inline x) = false
-slot_is i (Blob x j) = j == i
+slot_is i (Blob x (negsuc j)) = false
+slot_is i (Blob x (pos j)) = j == i
 
 abbrev pub in_slot : ℕ → Head → Bool
 in_slot i h = slot_is i h.pointer
@@ -69,8 +71,9 @@ abbrev pub Picked : (ℕ → Bool) → ℕ → Option ℕ → Type 0
 Picked P n None = some_below P n ≡ false
 Picked P n (Some i) = (i < n) × (P i ≡ true) × (some_below P n ≡ true)
 
+-- the slot of a pointer: a blob's, where that is a number from 0 on
 abbrev pub SlotOf : DiskPtr → Option ℕ → Type 0
-SlotOf o None = is_blob o ≡ false
+SlotOf o None = (i : ℕ) → slot_is i o ≡ false
 SlotOf o (Some i) = (is_blob o ≡ true) × (slot_is i o ≡ true)
 
 abbrev pub one_if : Bool → ℕ

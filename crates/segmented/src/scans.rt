@@ -14,7 +14,7 @@ pub(crate) fn in_slot(pointer: DiskPtr, i: u64) -> bool
 {
     match pointer {
         DiskPtr::Inline(_) => false,
-        DiskPtr::Blob(_, j) => j == i,
+        DiskPtr::Blob(_, j) => j >= 0 && j as u64 == i,
     }
 }
 
@@ -77,7 +77,7 @@ pub(crate) fn slot_of(pointer: DiskPtr) -> Option<u64>
 {
     match pointer {
         DiskPtr::Inline(_) => None,
-        DiskPtr::Blob(_, i) => Some(i),
+        DiskPtr::Blob(_, i) => { if i < 0 { None } else { Some(i as u64) } }
     }
 }
 

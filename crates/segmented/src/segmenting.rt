@@ -1,4 +1,4 @@
-ghost use Rattle.std.specs.Prelude.{◌≡◌, ℕ, ◌+◌, ◌*◌, ◌^◌, ◌<◌, ◌≤◌, max, true, false, List, [], ◌∷◌, ◌++◌, length, take, drop, IfOk, vec_len, vec_capacity};
+ghost use Rattle.std.specs.Prelude.{◌≡◌, ℕ, pos, ◌+◌, ◌*◌, ◌^◌, ◌<◌, ◌≤◌, max, true, false, List, [], ◌∷◌, ◌++◌, length, take, drop, IfOk, vec_len, vec_capacity};
 ghost use Rattle.fault.specs.declared.disk_pointer.DiskPtr.TheVariants as pointer;
 ghost use Rattle.logs.specs.Meaning.{any_pending, same_blob};
 ghost use Rattle.logs.specs.Clauses.{OnReserve};
@@ -10,9 +10,16 @@ use crate::scans::{lowest_page, seg_busy, slot_busy, slot_of, sparse_segment};
 use crate::segmented::Segmented;
 use book::{Book, Head};
 use fault::{DiskPtr, LogOffset, PageId};
-use logs::{CacheInfo, Event, Kind, Log, LogFault, Reservation, Returned};
+use logs::{CacheInfo, Event, Kind, Log, LogFault, Position, Reservation, Returned};
 use std::alloc::{AllocError, Global};
-use logs::Position;
+
+// Where a message lies that points to a slot.
+fn blob_at(offset: usize, i: usize) -> DiskPtr
+    requires { i < 2 ^ 63 }
+    ensures { result ≡ pointer.Blob offset (pos i) }
+{
+    DiskPtr::Blob(offset as u64, i as i64)
+}
 
 impl Segmented {
     fn seg_free(&self, q: usize) -> bool
@@ -106,9 +113,8 @@ impl Segmented {
         let offset = self.active * 4096 + self.fill;
         let at = self.segs * 4096 + i * 1152;
         self.book.overwrite(at, payload);
-        let r = self
-            .book
-            .append(pid, kind, DiskPtr::Blob(offset as u64, i as u64), at, n);
+        let pointer = blob_at(offset, i);
+        let r = self.book.append(pid, kind, pointer, at, n);
         self.fill = self.fill + 32;
         r
     }
@@ -117,13 +123,12 @@ impl Segmented {
     fn put_pointer(&mut self, pid: PageId, kind: Kind, i: usize, len: usize) -> Reservation
         requires { (Able self.old 32) × ((len ≤ 1152) × (i < self.old.slots)) }
         ensures put { Put self.old self.new pid kind (take len (drop (self.old.segs * 4096 + i * 1152) (mem_of self.old.book))) result }
-        ensures same { (x : ℕ) → same_blob result.pointer (pointer.Blob x i) ≡ true }
+        ensures same { (x : ℕ) → same_blob result.pointer (pointer.Blob x (pos i)) ≡ true }
     {
         let offset = self.active * 4096 + self.fill;
         let at = self.segs * 4096 + i * 1152;
-        let r = self
-            .book
-            .append(pid, kind, DiskPtr::Blob(offset as u64, i as u64), at, len);
+        let pointer = blob_at(offset, i);
+        let r = self.book.append(pid, kind, pointer, at, len);
         self.fill = self.fill + 32;
         r
     }

@@ -8,7 +8,8 @@ use Rattle.segmented.proofs.segmented.Segmented.make_ready.Goals as goal
 pub invariant_of-self : goal.invariant_of-self
 invariant_of-self c =
     let a = c.in-Some.ensures in
-    open_keeps c.args.self.now c.compact.new.self c.compact.ensures c.in-Some.q a.0 a.1
+    let k = open_keeps c.args.self.now c.compact.new.self c.compact.ensures c.in-Some.q a.0 a.1 in
+    record { few = k.few; slim = k.slim; sized = k.sized; inside = k.inside; filled = k.filled; roomy = k.roomy; packed = k.packed; lay = k.lay }
 
 pub returns-then-self-need-le4096 : goal.returns-then-self-need-le4096
 returns-then-self-need-le4096 c =

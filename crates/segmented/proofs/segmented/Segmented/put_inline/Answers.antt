@@ -25,12 +25,13 @@ invariant_of-self c =
     let o = Inline (s.active * 4096 + s.fill) in
     let b = c.overwrite.new.self in
     let d = c.append-r.new.self in
-    push_keeps s d _ (s.fill + (32 + length bytes))
+    let k = push_keeps s d _ (s.fill + (32 + length bytes))
     (over-heads s b d c.args.pid c.args.kind bytes o _ c.append-r.result c.overwrite.ensures c.append-r.ensures l t)
     (over-long s b d c.args.pid c.args.kind bytes o _ c.append-r.result c.overwrite.ensures c.append-r.ensures l t)
     (over-cap s b d c.args.pid c.args.kind bytes o _ c.append-r.result c.overwrite.ensures c.append-r.ensures l t)
     (seg_of s.active s.fill (omega (arith, h.there))) (omega arith) h.there
-    (new_inline s.segs s.slots s.active s.fill b.next c.args.pid c.args.kind (length bytes) s.inside h.there)
+    (new_inline s.segs s.slots s.active s.fill b.next c.args.pid c.args.kind (length bytes) s.inside h.there) in
+    record { few = k.few; slim = k.slim; sized = k.sized; inside = k.inside; filled = k.filled; roomy = k.roomy; packed = k.packed; lay = k.lay }
 
 pub returns : goal.returns
 returns c =

@@ -4,7 +4,9 @@ use Rattle.segmented.proofs.Kept.{kin_keeps}
 use Rattle.segmented.proofs.segmenting.SegmentedLog.sa_mark_replace.Goals as goal
 
 pub invariant_of-self : goal.invariant_of-self
-invariant_of-self c = kin_keeps c.args.self.now c.mark.new.self c.mark.ensures.kin
+invariant_of-self c =
+    let k = kin_keeps c.args.self.now c.mark.new.self c.mark.ensures.kin in
+    record { few = k.few; slim = k.slim; sized = k.sized; inside = k.inside; filled = k.filled; roomy = k.roomy; packed = k.packed; lay = k.lay }
 
 pub returns : goal.returns
 returns c =
