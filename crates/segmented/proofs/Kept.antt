@@ -1,8 +1,8 @@
 -- What a segmented log keeps of its book, and that each call keeps it. Assumes nothing.
-use Rattle.std.proofs.Common.{◌≡◌, ℕ, ◌+◌, ◌*◌, ◌/◌, ◌<◌, ◌≤◌, Bool, true, false, not, eqb, List, [], ◌∷◌, ◌++◌, length, vec_items, vec_capacity, sym, refl, ap, ◌∙◌, arith}
+use Rattle.std.proofs.Common.{◌≡◌, ℕ, ◌+◌, ◌*◌, ◌/◌, ◌<◌, ◌≤◌, true, not, eqb, [], ◌∷◌, ◌++◌, length, vec_items, vec_capacity, sym, refl, ap, ◌∙◌, arith}
 use Rattle.book.specs.declared.head.Head.{Head}
 use Rattle.book.specs.declared.book.Book.{Book}
-use Rattle.book.specs.Heads.{bare, lives}
+use Rattle.book.specs.Heads.{lives}
 use Rattle.book.specs.Books.{heads_of, mem_of, Kin, Compacted}
 use Rattle.book.proofs.Headers.{both_1}
 use Rattle.segmented.specs.declared.segmented.Segmented.{Segmented}

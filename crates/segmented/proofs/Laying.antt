@@ -1,20 +1,20 @@
 -- Where messages lie, and that a new one lies apart. Assumes nothing.
-use Rattle.std.proofs.Common.{◌≡◌, ℕ, zero, suc, ◌+◌, ◌-◌, ◌*◌, ◌/◌, ◌^◌, ◌<◌, ◌≤◌, Bool, true, false, cond, not, eqb, ltb, leb, ◌⊎◌, List, [], ◌∷◌, ◌++◌, length, get_or, take, drop, sym, refl, ap, ◌∙◌, subst, inl, inr, add-one, arith, ltb-true, lt-ltb, eq-eqb, ne_eqb, eqb-true, le-leb, leb-true}
+use Rattle.std.proofs.Common.{◌≡◌, ℕ, zero, suc, ◌+◌, ◌-◌, ◌*◌, ◌/◌, ◌<◌, ◌≤◌, Bool, true, false, cond, not, eqb, ltb, leb, ◌⊎◌, List, [], ◌∷◌, ◌++◌, length, take, drop, sym, refl, ap, ◌∙◌, inl, inr, add-one, arith, ltb-true, lt-ltb, eq-eqb, ne_eqb, eqb-true, le-leb, leb-true}
 use borrow.Rule.Slice.PartMut.{put_mid}
 use Rattle.std.specs.Prelude.{pos, negsuc}
 use Rattle.std.proofs.lemmas.Bool.{cases_lt, cases_eq}
-use Rattle.std.proofs.lemmas.List.{drop-take, length-append}
+use Rattle.std.proofs.lemmas.List.{drop-take}
 use Rattle.std.proofs.lemmas.Slice.{take-put_mid_below, drop-put_mid, between-put_mid}
 use Rattle.fault.specs.declared.disk_pointer.DiskPtr.{DiskPtr}
 use Rattle.fault.specs.declared.disk_pointer.DiskPtr.TheVariants.{Inline, Blob}
-use Rattle.logs.specs.Meaning.{Message, State, both, either, is_done, is_live, is_pending, any_pending, pending, live, dead, cancelled, Sheds, none, kept, shed}
-use Rattle.logs.proofs.Laws.{both_no, either_left, either_right}
+use Rattle.logs.specs.Meaning.{State, both, either, is_done, is_live, is_pending, any_pending, pending, live, dead, cancelled, Sheds, none, kept, shed}
+use Rattle.logs.proofs.Laws.{either_left, either_right}
 use Rattle.book.specs.declared.head.Head.{Head}
 use Rattle.logs.specs.Meaning.{state_of}
-use Rattle.book.specs.Heads.{message, messages, bare, with_status, lives, live_head}
+use Rattle.book.specs.Heads.{messages, bare, lives, live_head}
 use Rattle.book.proofs.Headers.{both_0, both_1, both_yes}
 use Rattle.fault.specs.Pointers.{lid_of}
-use Rattle.segmented.specs.Layout.{foot_of, limit, homed, placed, laid, some_head, busy_head, in_seg, in_slot, slot_is, seg_busy, slot_busy, some_below}
+use Rattle.segmented.specs.Layout.{foot_of, limit, homed, placed, laid, some_head, busy_head, in_seg, in_slot, slot_is, some_below}
 
 -- some number below
 pub below_more : (P : ℕ → Bool) (n : ℕ) → some_below P n ≡ false → P n ≡ false → some_below P (n + 1) ≡ false

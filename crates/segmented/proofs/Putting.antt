@@ -1,6 +1,5 @@
 -- What one more message does. Assumes nothing.
-use Rattle.std.proofs.Common.{◌≡◌, ℕ, zero, suc, ◌+◌, ◌-◌, ◌*◌, ◌/◌, ◌^◌, ◌<◌, ◌≤◌, Bool, true, false, cond, not, eqb, ltb, leb, ◌⊎◌, List, [], ◌∷◌, ◌++◌, length, get_or, take, drop, is_some, Some, None, vec_items, vec_len, vec_capacity, sym, refl, ap, ◌∙◌, subst, inl, inr, arith, ltb-true, lt-ltb, eq-eqb, ne_eqb, eqb-true, le-leb, leb-true}
-use borrow.Rule.Slice.PartMut.{put_mid}
+use Rattle.std.proofs.Common.{◌≡◌, ℕ, zero, suc, ◌+◌, ◌*◌, ◌/◌, ◌^◌, ◌<◌, ◌≤◌, Bool, true, false, cond, not, eqb, ltb, leb, ◌⊎◌, List, [], ◌∷◌, ◌++◌, length, get_or, take, drop, is_some, Some, None, vec_items, vec_len, vec_capacity, sym, refl, ap, ◌∙◌, subst, inl, inr, arith, ltb-true, lt-ltb, eq-eqb, eqb-true, le-leb, leb-true}
 use Rattle.std.specs.Prelude.{pos, negsuc}
 use Rattle.std.proofs.lemmas.Cmp.{int_eq_equiv}
 use Rattle.std.proofs.lemmas.Bool.Decides.{Decides-int_eq}
@@ -9,22 +8,21 @@ use Rattle.logs.specs.declared.messages.Kind.{Kind}
 use Rattle.fault.specs.declared.disk_pointer.DiskPtr.{DiskPtr}
 use Rattle.fault.specs.declared.disk_pointer.DiskPtr.TheVariants.{Inline, Blob}
 use Rattle.logs.specs.declared.reservation.Reservation.{Reservation}
-use Rattle.logs.specs.Meaning.{Message, Meaning, State, both, either, any_pending, is_pending, is_live, pending, live, dead, cancelled, Sheds, Below, same_blob, same_ptr, is_blob, live_at}
+use Rattle.logs.specs.Meaning.{Message, State, either, any_pending, is_pending, is_live, pending, live, dead, cancelled, Sheds, same_blob, same_ptr, is_blob, live_at}
 use Rattle.logs.specs.Clauses.{fresh, Reserved, Moved, blob_there}
 use Rattle.book.specs.declared.head.Head.{Head}
 use Rattle.book.specs.declared.book.Book.{Book}
 use Rattle.logs.specs.Meaning.{state_of}
-use Rattle.book.specs.Heads.{message, messages, bare, lives, live_head, payload_of}
-use Rattle.book.specs.Books.{heads_of, mem_of, told, new_head, book_means, Ready, Appended, Overwritten, Compacted, Kin, LiveIndex}
+use Rattle.book.specs.Heads.{message, messages, lives, live_head, payload_of}
+use Rattle.book.specs.Books.{heads_of, mem_of, told, new_head, Ready, Appended, Overwritten, Compacted, LiveIndex}
 use Rattle.logs.proofs.Laws.{both_no}
 use Rattle.book.proofs.Pages.{found-there, no_head}
 use Rattle.book.proofs.Headers.{both_0, both_1, both_yes, is-ranked, messages_push, messages_below, sheds-none}
 use Rattle.segmented.specs.declared.segmented.Segmented.{Segmented}
-use Rattle.fault.specs.Pointers.{lid_of}
-use Rattle.segmented.specs.Layout.{foot_of, limit, homed, placed, laid, some_head, in_seg, in_slot, free_seg, seg_busy, free_slot, slot_busy, some_below, slot_is, count_seg, share}
-use Rattle.segmented.proofs.Counting.{header_left, packed-lives, packed_open}
+use Rattle.segmented.specs.Layout.{homed, placed, laid, some_head, in_slot, free_seg, free_slot, slot_busy, some_below, slot_is}
+use Rattle.segmented.proofs.Counting.{header_left}
 use Rattle.segmented.specs.Segments.{seg_means, seg_fits, ready, Able, Prepared, Swept, Put}
-use Rattle.segmented.proofs.Laying.{limit-here, home, to_placed, laid_push, laid-bare, laid-lives, laid_open, vacant_lives, sheds-lives, Apart_inlines, Apart_blobs, messages_apart, part_new, Apart}
+use Rattle.segmented.proofs.Laying.{limit-here, home, to_placed, vacant_lives, sheds-lives, Apart_inlines, Apart_blobs, messages_apart, part_new, Apart}
 
 appended_told : (c d : Book) (p : ℕ) (k : Kind) (o : DiskPtr) (at n : ℕ) (r : Reservation) → Appended c d p k o at n r → told d ≡ told c ++ (message (mem_of c) (new_head c.next p k o at n) ∷ [])
 appended_told c d p k o at n r a =

@@ -1,13 +1,13 @@
 -- What a segmented log means. Assumes nothing.
-use Rattle.std.specs.Prelude.{◌≡◌, ℕ, ◌+◌, ◌*◌, ◌^◌, ◌<◌, ◌≤◌, Bool, true, false, cond, not, ◌⊎◌, List, [], ◌∷◌, ◌++◌, length, Some, None, vec_len, vec_capacity, Option, nat_le, nat_lt}
+use Rattle.std.specs.Prelude.{◌≡◌, ℕ, ◌+◌, ◌*◌, ◌^◌, ◌<◌, ◌≤◌, Bool, true, false, cond, ◌⊎◌, List, [], ◌∷◌, ◌++◌, length, Some, None, vec_len, vec_capacity, Option, nat_le, nat_lt}
 use Rattle.logs.specs.declared.messages.Kind.{Kind}
 use Rattle.logs.specs.declared.reservation.Reservation.{Reservation}
-use Rattle.logs.specs.Meaning.{Meaning, both, either, pending, any_pending, same_blob}
+use Rattle.logs.specs.Meaning.{Meaning, both, either, pending, any_pending}
 use Rattle.logs.specs.Clauses.{fresh}
 use Rattle.book.specs.declared.book.Book.{Book}
 use Rattle.book.specs.declared.head.Head.{Head}
 use Rattle.book.specs.Heads.{lives}
-use Rattle.book.specs.Books.{heads_of, mem_of, told, book_means, Compacted}
+use Rattle.book.specs.Books.{heads_of, told, book_means, Compacted}
 use Rattle.segmented.specs.declared.segmented.Segmented.{Segmented}
 use Rattle.segmented.specs.Layout.{free_seg, free_slot, some_below, Rival, Sparse, Lowest}
 

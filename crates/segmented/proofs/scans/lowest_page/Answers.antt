@@ -1,4 +1,4 @@
-use Rattle.std.proofs.Common.{◌≡◌, List, [], ◌∷◌, ◌++◌, get_or, take, Some, sym, refl, ap, ◌∙◌}
+use Rattle.std.proofs.Common.{[], ◌∷◌, ◌++◌, get_or, take, Some, sym, ◌∙◌}
 use Rattle.fault.specs.declared.disk_pointer.DiskPtr.TheVariants.{Inline}
 use Rattle.logs.specs.declared.messages.Kind.TheVariants.{Counter}
 use Rattle.logs.specs.declared.messages.Status.TheVariants.{Pending}

@@ -1,7 +1,6 @@
-use Rattle.std.proofs.Common.{◌≡◌, List, sym, ap, ◌∙◌}
+use Rattle.std.proofs.Common.{sym, ap, ◌∙◌}
 use Rattle.std.proofs.lemmas.List.{drop_all}
 use Rattle.logs.specs.Meaning.{both}
-use Rattle.book.specs.declared.head.Head.{Head}
 use Rattle.segmented.specs.Layout.{seg_busy, busy_head, in_seg}
 use Rattle.segmented.proofs.Scanned.{some_more}
 use Rattle.segmented.proofs.scans.seg_busy.Goals as goal

@@ -1,8 +1,7 @@
-use Rattle.std.proofs.Common.{◌≡◌, ◌+◌, ◌<◌, ◌≤◌, true, false, List, length, take, sym, refl, ap, ◌∙◌, inl, inr, arith, rules}
+use Rattle.std.proofs.Common.{◌+◌, true, false, sym, ap, ◌∙◌, inl, inr, arith, rules}
 use Rattle.std.proofs.lemmas.List.{take_all}
-use Rattle.book.specs.declared.head.Head.{Head}
 use Rattle.segmented.specs.Layout.{count_live}
-use Rattle.segmented.proofs.Sparsest.{count_more, count_take, Sparse_pass, Sparse_best, Sparse-low}
+use Rattle.segmented.proofs.Sparsest.{count_more, count_take, Sparse_pass, Sparse_best}
 use Rattle.segmented.proofs.scans.sparse_segment.Goals as goal
 
 pub loop-h-preserved-then-not-live_in : goal.loop-h-preserved-then-not-live_in

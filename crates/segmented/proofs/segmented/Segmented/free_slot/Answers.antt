@@ -1,4 +1,4 @@
-use Rattle.std.proofs.Common.{◌≡◌, ℕ, false, sym, ap, ◌∙◌, arith, rules}
+use Rattle.std.proofs.Common.{◌≡◌, sym, ap, ◌∙◌, rules}
 use Rattle.book.specs.Books.{heads_of}
 use Rattle.segmented.specs.Layout.{free_slot, some_below}
 use Rattle.segmented.proofs.Laying.{below_more, Below_yes}

@@ -1,9 +1,8 @@
-use Rattle.std.proofs.Common.{◌≡◌, ◌+◌, ◌*◌, ◌/◌, ◌<◌, ◌≤◌, false, length, refl, ap, ◌∙◌, arith, rules}
+use Rattle.std.proofs.Common.{◌+◌, ◌*◌, ◌/◌, length, refl, ap, ◌∙◌, arith}
 use Rattle.fault.specs.declared.disk_pointer.DiskPtr.{DiskPtr}
 use Rattle.fault.specs.Pointers.{lid_of}
-use Rattle.book.specs.Books.{heads_of, new_head}
-use Rattle.segmented.specs.Segments.{Able}
-use Rattle.segmented.specs.Layout.{some_head, in_slot, placed}
+use Rattle.book.specs.Books.{new_head}
+use Rattle.segmented.specs.Layout.{placed}
 use Rattle.segmented.proofs.Kept.{push_keeps}
 use Rattle.segmented.proofs.Putting.{blob-room, blob_apart, new_blob, over-ready, over-put, over-long, over-cap, over-heads, seg_of}
 use Rattle.segmented.proofs.segmented.Segmented.put_blob.Goals as goal

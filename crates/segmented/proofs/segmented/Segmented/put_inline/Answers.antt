@@ -1,8 +1,5 @@
-use Rattle.std.proofs.Common.{◌≡◌, ◌+◌, ◌*◌, ◌<◌, ◌≤◌, false, length, refl, arith, rules}
+use Rattle.std.proofs.Common.{◌+◌, ◌*◌, length, refl, arith}
 use Rattle.fault.specs.declared.disk_pointer.DiskPtr.TheVariants.{Inline}
-use Rattle.book.specs.Books.{heads_of}
-use Rattle.segmented.specs.Segments.{Able}
-use Rattle.segmented.specs.Layout.{some_head, in_slot}
 use Rattle.segmented.proofs.Kept.{push_keeps}
 use Rattle.segmented.proofs.Putting.{inline_room, inline_apart, new_inline, over-ready, over-put, over-long, over-cap, over-heads, seg_of}
 use Rattle.segmented.proofs.segmented.Segmented.put_inline.Goals as goal

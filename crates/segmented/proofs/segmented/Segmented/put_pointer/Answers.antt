@@ -1,4 +1,4 @@
-use Rattle.std.proofs.Common.{◌≡◌, ◌+◌, ◌*◌, ◌/◌, ◌<◌, ◌≤◌, length, vec_items, refl, ap, ◌∙◌, arith, rules}
+use Rattle.std.proofs.Common.{◌+◌, ◌*◌, ◌/◌, length, vec_items, refl, ap, ◌∙◌, arith}
 use Rattle.fault.specs.declared.disk_pointer.DiskPtr.{DiskPtr}
 use Rattle.fault.specs.Pointers.{lid_of}
 use Rattle.book.specs.Books.{new_head}

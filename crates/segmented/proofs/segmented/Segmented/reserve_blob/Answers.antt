@@ -1,5 +1,5 @@
-use Rattle.std.proofs.Common.{◌≡◌, ◌+◌, ◌<◌, ◌≤◌, true, false, length, ap, ◌∙◌, arith, rules}
-use Rattle.segmented.specs.Segments.{seg_means, seg_fits}
+use Rattle.std.proofs.Common.{◌≤◌, true, length, arith, rules}
+use Rattle.segmented.specs.Segments.{seg_fits}
 use Rattle.segmented.proofs.Putting.{reserved, swept, fits-blob, slot_vacant}
 use Rattle.segmented.proofs.segmented.Segmented.reserve_blob.Goals as goal
 

@@ -1,7 +1,5 @@
-use Rattle.std.proofs.Common.{◌≡◌, ◌+◌, ◌≤◌, true, false, length, arith, rules}
-use Rattle.logs.specs.Meaning.{any_pending}
-use Rattle.book.specs.Books.{told}
-use Rattle.segmented.specs.Segments.{seg_means, seg_fits}
+use Rattle.std.proofs.Common.{◌+◌, true, length, arith}
+use Rattle.segmented.specs.Segments.{seg_fits}
 use Rattle.segmented.proofs.Putting.{reserved, fits_inline}
 use Rattle.segmented.proofs.segmented.Segmented.reserve_inline.Goals as goal
 

@@ -1,9 +1,9 @@
-use Rattle.std.proofs.Common.{◌≡◌, ◌+◌, ◌<◌, ◌≤◌, true, false, sym, refl, ap, ◌∙◌, rules}
-use Rattle.segmented.proofs.Putting.{no_slot, blob-home, blob-there, there-blob, moved}
+use Rattle.std.proofs.Common.{sym, refl, ◌∙◌, rules}
+use Rattle.segmented.proofs.Putting.{no_slot, blob-home, there-blob, moved}
 use Rattle.segmented.proofs.segmenting.SegmentedLog.rewrite_blob_pointer.Goals as goal
 
 pub returns-in_default : goal.returns-in_default
-returns-in_default c = (refl, (refl, refl, no_slot c.args.self.now c.args.lsn c.args.pointer (c.in_default.ensures tt)))
+returns-in_default c = (refl, (refl, refl, no_slot c.args.self.now c.args.lsn c.args.pointer (λ i. c.in_default.ensures i)))
 
 pub returns-then-any_pending : goal.returns-then-any_pending
 returns-then-any_pending c =
