@@ -2,7 +2,7 @@
 use crate::model::{Model, Plain, Shape, inline_place, place};
 use crate::random::Random;
 use crate::tally::{Tally, count};
-use fault::{DiskPtr, PageId};
+use fault::{BlobPointer, DiskPtr, PageId};
 use logs::{CacheInfo, Kind, Log, LogFault, Reservation, Returned, Status};
 use std::alloc::{AllocError, Global};
 
@@ -105,7 +105,7 @@ fn refused(got: Result<Reservation, LogFault>, fault: LogFault) -> bool {
     }
 }
 
-fn blob_at(place: Option<(u64, Shape)>, slot: u64) -> Option<(DiskPtr, Shape)> {
+fn blob_at(place: Option<(u64, Shape)>, slot: BlobPointer) -> Option<(DiskPtr, Shape)> {
     let (lid, shape) = place?;
     Some((DiskPtr::Blob(lid, slot), shape))
 }

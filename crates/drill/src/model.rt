@@ -1,8 +1,7 @@
 // A plain model of a log: a list of messages, each of which knows how its bytes were made.
 use fault::{DiskPtr, PageId};
-use logs::{CacheInfo, Kind, Status};
+use logs::{CacheInfo, Kind, Position, Status};
 use std::alloc::{AllocError, Global};
-use logs::Position;
 
 #[derive(Clone, Copy)]
 pub struct Plain {
@@ -43,7 +42,7 @@ fn segment_of(plain: &Plain) -> u64 {
 fn points_to(plain: &Plain, slot: u64) -> bool {
     match plain.pointer {
         DiskPtr::Inline(_) => false,
-        DiskPtr::Blob(_, i) => i == slot,
+        DiskPtr::Blob(_, i) => u64::try_from(i).ok() == Some(slot),
     }
 }
 
@@ -119,7 +118,7 @@ pub fn place(plains: &[Plain], shape: Shape, len: u64) -> Option<(DiskPtr, Shape
             if len > 512 {
                 let slot = free_slot(plains, slots)?;
                 let (lid, after) = inline_place(plains, shape, 32)?;
-                return Some((DiskPtr::Blob(lid, slot), after));
+                return Some((DiskPtr::Blob(lid, i64::try_from(slot).ok()?), after));
             }
         }
         Shape::Tape(_, _) => {}
