@@ -7,6 +7,6 @@ pub returns : goal.returns
 returns g c =
     let t = c.args.self.now in
     record {
-      fits = sym (lt-ltb _ _ (simp (length-take-le t.len t.rows (omega arith)) c.if-self.false));
+      fits = sym (lt-ltb _ _ (simp (length-take-le t.len t.rows (omega arith)) (omega arith)));
       rows = take_more_set t.rows t.len c.args.x (omega arith);
     }

@@ -9,7 +9,7 @@ use Rattle.node.proofs.meta.Meta.del_root.Goals as goal
 pub invariant_of-self : goal.invariant_of-self
 invariant_of-self c =
     let m = c.args.self.now in
-    record { ruled = (cut_done root_row (bytes_of c.args.name.now) (rows_of m.roots) (rows_of c.remove_row.new.table) c.remove_row.result m.ruled c.remove_row.ensures).1 }
+    record { ruled = (cut_done root_row _ (rows_of m.roots) (rows_of c.remove_row.new.table) c.remove_row.result m.ruled c.remove_row.ensures).1 }
 
 pub returns : goal.returns
 returns c =
