@@ -2,7 +2,7 @@
 # Builds the port's loops as a static library and times them. Not part of the gate.
 set -eu
 cd "$(dirname "$0")/.."
-rt staticlib pace
+(cd crates/pace && rt lib)
 mkdir -p target/perf
-gcc -O2 -o target/perf/pace perf/pace.c target/staticlib/libpace.a
+gcc -O2 -o target/perf/pace perf/pace.c crates/pace/out/libpace.a
 target/perf/pace

@@ -4,7 +4,7 @@ ghost use Rattle.serialization.specs.Parsing.{Parsed, read};
 ghost use Rattle.serialization.specs.Numbers.{number, parse_number};
 ghost use Rattle.serialization.specs.Fitting.{FitsNumber};
 ghost use Rattle.serialization.specs.Numbering.{number-back, number-only};
-ghost use Rattle.std.proofs.Common.{rules};
+ghost use Rattle.serialization.specs.Laws.{free_back, free_only};
 
 use crate::groups::{put_number, take_number};
 use crate::serialize::{Free, PAYLOAD, Serialize};
@@ -52,9 +52,9 @@ impl Serialize for Free {
 
     ghost Fits = { λ _. Unit {0} };
 
-    ghost back = { Prim.search rules };
+    ghost back = { free_back };
 
-    ghost only = { Prim.search rules };
+    ghost only = { free_only };
 
     fn serialize_into(&self, buf: &mut [u8]) -> Result<usize, BytesFault> {
         if buf.len() < PAYLOAD {
