@@ -21,6 +21,8 @@ ALIAS = re.compile(r"\bas ([a-z]+[A-Z][A-Za-z]*)")
 GENERATED = re.compile(r"^(returns|loop|invariant|overflow|decreases|bounds|slice_bounds|unreachable|nonzero|ghost|prove)\b|-requires|-preserved|-init$|-smaller|segments-")
 # Names of the library that the lemmas of this repository speak of.
 LIBRARY = set("length take drop map append filter replicate set insert remove lookup reverse min max sum zero suc nil cons cond and_then option_map get_or slice_index slice_range string_bytes put_mid".split())
+# Names that the crates of the logs define: listed, so that the landed crates come out the same without those.
+LIBRARY |= set("both first is last less one page rest small still".split())
 # Names that would fall together with another, of the library or of the repository.
 CHOSEN = {"stringBytes": "str_bytes", "take-removed": "take-remove", "take_inserted": "take-insert"}
 BY_CRATE = {"worked": {"empty_leaf": "empty_leaf_lem"}}
