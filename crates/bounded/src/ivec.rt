@@ -4,6 +4,7 @@ mod ops;
 
 // A string of at most N bytes, and at most 255, which lie in place. What lies past its length is 0, so that two strings of
 // the same bytes are one value.
+// Kept: a Vec would ask for memory in a running cache, and a length of one byte keeps a node small.
 #[derive(Clone, Copy)]
 pub struct IVec<const N: usize> {
     bytes: [u8; N],

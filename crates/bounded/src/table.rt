@@ -5,6 +5,7 @@ use std::alloc::AllocError;
 mod ops;
 
 // A table of at most N rows, which lie in place: the first `len` of `rows` are the rows, and the rest is spare room.
+// Kept: a Vec would ask for memory in a running cache.
 #[derive(Copy)]
 pub struct Table<T: Copy, const N: usize> {
     rows: [T; N],
@@ -13,6 +14,7 @@ pub struct Table<T: Copy, const N: usize> {
     ghost few: { len ≤ N },
 }
 
+// Kept: the derive is refused over a ghost field beside a type parameter.
 impl<T: Copy, const N: usize> Clone for Table<T, N> {
     ghost is_clone = { λ t u. t ≡ u };
 

@@ -16,10 +16,7 @@ impl DiskPtr {
     pub fn is_blob(&self) -> bool
         ensures { result ≡ is_blob self.now }
     {
-        match self {
-            DiskPtr::Blob(_, _) => true,
-            DiskPtr::Inline(_) => false,
-        }
+        matches!(self, DiskPtr::Blob(..))
     }
 
     // The place in the log.
@@ -27,8 +24,7 @@ impl DiskPtr {
         ensures { result ≡ lid_of self.now }
     {
         match *self {
-            DiskPtr::Inline(lid) => lid,
-            DiskPtr::Blob(lid, _) => lid,
+            DiskPtr::Inline(lid) | DiskPtr::Blob(lid, _) => lid,
         }
     }
 }

@@ -5,12 +5,14 @@
 pub mod bytes_fault;
 pub mod disk_pointer;
 pub mod node_fault;
+pub mod refusal;
 pub mod report;
 pub mod value_fault;
 
 pub use bytes_fault::BytesFault;
 pub use disk_pointer::DiskPtr;
 pub use node_fault::NodeFault;
+pub use refusal::Refusal;
 pub use report::{Layer, Report};
 pub use value_fault::ValueFault;
 

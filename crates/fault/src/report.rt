@@ -1,3 +1,5 @@
+ghost use Rattle.std.specs.Prelude.{◌≡◌, None};
+
 use crate::{DiskPtr, PageId};
 use std::fmt;
 
@@ -19,13 +21,27 @@ pub struct Report {
     pub layer: Layer,
 }
 
+impl Report {
+    // No page and no pointer: whoever holds the value knows where it came from.
+    pub(crate) fn of_value(number: u8, layer: Layer) -> Report
+        ensures { result ≡ record { number = number; page = None; pointer = None; layer = layer } }
+    {
+        Report {
+            number,
+            page: None,
+            pointer: None,
+            layer,
+        }
+    }
+}
+
 impl fmt::Display for Layer {
     fn fmt<W: fmt::Write>(&self, f: &mut fmt::Formatter<W>) -> fmt::Result {
-        match self {
-            Layer::Bytes => f.write_str("bytes"),
-            Layer::Node => f.write_str("node"),
-            Layer::Log => f.write_str("log"),
-            Layer::Cache => f.write_str("cache"),
-        }
+        f.write_str(match self {
+            Layer::Bytes => "bytes",
+            Layer::Node => "node",
+            Layer::Log => "log",
+            Layer::Cache => "cache",
+        })
     }
 }

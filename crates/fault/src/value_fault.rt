@@ -2,21 +2,22 @@ ghost use Rattle.std.specs.Prelude.{◌≡◌};
 ghost use Rattle.fault.specs.Reports.{value_report};
 ghost use Rattle.fault.specs.declared.value_fault.ValueFault.TheVariants.{Bytes, Node};
 
-use crate::{BytesFault, NodeFault, Report};
-use std::fmt;
-use std::fmt::{Debug, Display};
+use crate::{BytesFault, NodeFault, Refusal, Report};
+use thiserror::Error;
 
 // Why a payload could not be read, or what was read could not be applied: the fault below, held whole.
-#[derive(Clone, Copy, PartialEq, Eq, Debug)]
+#[derive(Clone, Copy, PartialEq, Eq, Debug, Error)]
 pub enum ValueFault {
+    #[error(transparent)]
     Bytes(BytesFault),
+    #[error(transparent)]
     Node(NodeFault),
 }
 
-impl ValueFault {
-    pub fn report(&self) -> Report
-        ensures { result ≡ value_report self.now }
-    {
+impl Refusal for ValueFault {
+    ghost told = { value_report };
+
+    fn report(&self) -> Report {
         match self {
             ValueFault::Bytes(fault) => fault.report(),
             ValueFault::Node(fault) => fault.report(),
@@ -24,6 +25,7 @@ impl ValueFault {
     }
 }
 
+// Kept: the derive's `#[from]` does not say which variant it makes, and callers rest on that.
 impl From<BytesFault> for ValueFault {
     ghost from_gives = { λ fault r. r ≡ Bytes fault };
 
@@ -32,19 +34,11 @@ impl From<BytesFault> for ValueFault {
     }
 }
 
+// Kept: as the one above.
 impl From<NodeFault> for ValueFault {
     ghost from_gives = { λ fault r. r ≡ Node fault };
 
     fn from(fault: NodeFault) -> ValueFault {
         ValueFault::Node(fault)
-    }
-}
-
-impl fmt::Display for ValueFault {
-    fn fmt<W: fmt::Write>(&self, f: &mut fmt::Formatter<W>) -> fmt::Result {
-        match self {
-            ValueFault::Bytes(fault) => fmt::Display::fmt(fault, f),
-            ValueFault::Node(fault) => fmt::Display::fmt(fault, f),
-        }
     }
 }

@@ -1,11 +1,13 @@
 -- What put and without leave rises, and what a search and one edit of a table come to. Assumes nothing.
-use Rattle.std.proofs.Common.{◌≡◌, ℕ, ◌<◌, ◌≤◌, Bool, true, false, cond, ltb, List, [], ◌∷◌, length, get_or, set, Some, None, Ok, Err, Result, Ordering, Less, Equal, Greater, sym, refl, ap, ◌∙◌, subst, ⊎_elim}
-use Rattle.std.specs.List.{insert, remove}
+use Rattle.std.proofs.Common.{◌≡◌, ℕ, true, false, List, [], ◌∷◌, length, get_or, Some, None, Ok, Err, Option, Result, is_ok, Ordering, Less, Equal, Greater, sym, refl, ap, ◌∙◌, subst, ⊎_elim, arith}
+use Rattle.std.specs.Result.{IsErr}
 use Rattle.std.specs.Ordering.{ordering_reverse}
-use Rattle.std.proofs.lemmas.Bool.{cases_lt, cond-true, false≢true, lt-ltb}
+use Rattle.std.proofs.lemmas.Bool.{cases_lt, false≢true, true≢false}
 use Rattle.keyed.specs.Order.{Lawful}
-use Rattle.keyed.specs.Rows.{between, probe, by, rising, lookup, put, without, Searched, Removed}
-use Rattle.keyed.proofs.Places.{Above, Rising, rising_tested, rising_all, Above_weaker, found, missing, lookup-found, lookup-missing, put-found, put-missing, without-found, without-missing}
+use Rattle.keyed.specs.Rows.{between, probe, by, rising, lookup, put, without, Searched, Put, Removed}
+use Rattle.bounded.specs.Rows as rows
+use Rattle.bounded.specs.Rows.{Replaced, Inserted}
+use Rattle.keyed.proofs.Places.{Missing, Above, Rising, rising_tested, rising_all, Above_weaker, found, missing, lookup-found, lookup-missing, put-found, put-missing, without-found, without-missing}
 
 module _ {R : Type 0} (q : R → Ordering) where
   Above-by : (p : R → Ordering) (r x : R) (xs : List R) (t : Ordering) → q r ≡ Less → Above q (x ∷ xs) → Above q (put p r xs) → Above q (by t (r ∷ x ∷ xs) (r ∷ xs) (x ∷ put p r xs))
@@ -52,45 +54,49 @@ module _ {R K : Type 0} (ord : K → K → Ordering) (key : R → K) (laws : Law
   pub without-rising : (p : R → Ordering) (xs : List R) → rising (between ord key) xs ≡ true → rising (between ord key) (without p xs) ≡ true
   without-rising p xs up = rising_tested (between ord key) (without p xs) (rises-without (between ord key) p xs (rising_all ord key laws xs up))
 
-  -- ---- an edit of the rows xs, of which a search for q in ys told where it is to be made
+  -- where a search for the key of r ended, in rows that were lent
+  pub sought : (xs ys : List R) (q : K) (r : R) (t : Result ℕ ℕ) → ys ≡ xs → q ≡ key r → rising (between ord key) xs ≡ true → (rising (between ord key) ys ≡ true → Searched (probe ord key q) ys t) → Searched (between ord key r) xs t
+  sought xs ys q r t same mine up s = subst (λ (p : K). Searched (probe ord key p) xs t) mine (subst (λ (l : List R). rising (between ord key) l ≡ true → Searched (probe ord key q) l t) same s up)
 
-  module _ (xs ys : List R) (same : ys ≡ xs) (up : rising (between ord key) xs ≡ true) where
-    searched : (q k : K) (t : Result ℕ ℕ) → q ≡ k → (rising (between ord key) ys ≡ true → Searched (probe ord key q) ys t) → Searched (probe ord key k) xs t
-    searched q k t e s = subst (λ (p : K). Searched (probe ord key p) xs t) e (subst (λ (l : List R). rising (between ord key) l ≡ true → Searched (probe ord key q) l t) same s up)
+  -- ---- an edit of rising rows xs, at the place where a search ended
 
-    former : (p : R → Ordering) (zs : List R) (i : ℕ) (x : R) → zs ≡ xs → x ≡ get_or zs i x → Searched p xs (Ok i) → Some x ≡ lookup p xs
-    former p zs i x e h s = lookup-found p x (h ∙ ap (λ l. get_or l i x) e) (found p xs i s)
+  module _ (xs : List R) (up : rising (between ord key) xs ≡ true) where
+    former : (p : R → Ordering) (i : ℕ) (x : R) → x ≡ get_or xs i x → Searched p xs (Ok i) → Some x ≡ lookup p xs
+    former p i x h s = lookup-found p x h (found p xs i s)
 
-    module _ (r : R) (q : K) (mine : q ≡ key r) (i : ℕ) (after : List R) where
+    module _ (r : R) (i n : ℕ) (after : List R) where
       still-rising : after ≡ put (between ord key r) r xs → rising (between ord key) after ≡ true
       still-rising e = ap (rising (between ord key)) e ∙ put-rising r xs up
 
-      pub set_found : (zs : List R) (x : R) → (rising (between ord key) ys ≡ true → Searched (probe ord key q) ys (Ok i)) → zs ≡ xs → x ≡ get_or zs i x → after ≡ set xs i r → (Some x ≡ lookup (between ord key r) xs) × (after ≡ put (between ord key r) r xs) × (rising (between ord key) after ≡ true)
-      set_found zs x s e h w =
-          let at = searched q (key r) (Ok i) mine s in
-          let made = w ∙ sym (put-found (between ord key r) r (found (between ord key r) xs i at)) in
-          (former (between ord key r) zs i x e h at, made, still-rising made)
+      pub set_found : (E : Type 0) (t : Option R) → Searched (between ord key r) xs (Ok i) → Replaced i r xs after t → Put {E = E} (between ord key) r n xs after (Ok t)
+      set_found E None s w = absurd (omega (arith, s.0, w.0))
+      set_found E (Some x) s w =
+          let made = w.2 ∙ sym (put-found (between ord key r) r (found (between ord key r) xs i s)) in
+          (former (between ord key r) i x w.1 s, made, still-rising made)
 
-      module _ (s : rising (between ord key) ys ≡ true → Searched (probe ord key q) ys (Err i)) where
-        pub set_new : after ≡ insert xs i r → (None ≡ lookup (between ord key r) xs) × (after ≡ put (between ord key r) r xs) × (rising (between ord key) after ≡ true)
-        set_new w =
-            let at = missing (between ord key r) xs i (searched q (key r) (Err i) mine s) in
-            let made = w ∙ sym (put-missing (between ord key r) r at) in
+      module _ (s : Searched (between ord key r) xs (Err i)) (E : Type 0) where
+        at : Missing (between ord key r) xs i
+        at = missing (between ord key r) xs i s
+
+        pub set_new : (t : Result Unit R) → is_ok t ≡ true → Inserted n i r xs after t → Put {E = E} (between ord key) r n xs after (Ok None)
+        set_new (Ok u) h w =
+            let made = w.2 ∙ sym (put-missing (between ord key r) r at) in
             (sym (lookup-missing (between ord key r) at), made, still-rising made)
+        set_new (Err y) h w = absurd (false≢true h)
 
-        pub set_full : (n : ℕ) → ((length xs < n) × (i ≤ length xs) → false ≡ true) → after ≡ xs → (lookup (between ord key r) xs ≡ None) × (n ≤ length xs) × (after ≡ xs)
-        set_full n full w =
-            let at = searched q (key r) (Err i) mine s in
-            (lookup-missing (between ord key r) (missing (between ord key r) xs i at), ⊎_elim (λ h. absurd (false≢true (full (h, at.0)))) (λ h. h) (cases_lt (length xs) n), w)
+        pub set_full : (u : Result (Option R) E) (t : Result Unit R) → IsErr u → is_ok t ≡ false → Inserted n i r xs after t → Put (between ord key) r n xs after u
+        set_full (Ok x) t k h w = absurd (false≢true k)
+        set_full (Err e) (Ok u) k h w = absurd (true≢false h)
+        set_full (Err e) (Err y) k h w = (lookup-missing (between ord key r) at, ⊎_elim (λ l. absurd (w.0 l s.0)) (λ l. l) (cases_lt (length xs) n), w.2)
 
     module _ (q : K) (i : ℕ) where
-      pub cut_found : (after zs : List R) (x : R) (b : Bool) → (rising (between ord key) ys ≡ true → Searched (probe ord key q) ys (Ok i)) → zs ≡ xs → x ≡ get_or zs i x → b ≡ ltb i (length xs) → after ≡ cond b (remove xs i) xs → Removed (between ord key) (probe ord key q) xs after (Some x)
-      cut_found after zs x b s e h fits w =
-          let at = searched q q (Ok i) refl s in
-          let made : after ≡ without (probe ord key q) xs = w ∙ cond-true b (remove xs i) xs (fits ∙ lt-ltb i (length xs) at.0) ∙ sym (without-found (probe ord key q) (found (probe ord key q) xs i at)) in
-          (former (probe ord key q) zs i x e h at, made, ap (rising (between ord key)) made ∙ without-rising (probe ord key q) xs up)
+      pub cut_found : (after : List R) (t : Option R) → Searched (probe ord key q) xs (Ok i) → rows.Removed i xs after t → Removed (between ord key) (probe ord key q) xs after t
+      cut_found after None s w = absurd (omega (arith, s.0, w.0))
+      cut_found after (Some x) s w =
+          let made : after ≡ without (probe ord key q) xs = w.2 ∙ sym (without-found (probe ord key q) (found (probe ord key q) xs i s)) in
+          (former (probe ord key q) i x w.1 s, made, ap (rising (between ord key)) made ∙ without-rising (probe ord key q) xs up)
 
-      pub cut_none : (rising (between ord key) ys ≡ true → Searched (probe ord key q) ys (Err i)) → Removed (between ord key) (probe ord key q) xs xs None
+      pub cut_none : Searched (probe ord key q) xs (Err i) → Removed (between ord key) (probe ord key q) xs xs None
       cut_none s =
-          let at = missing (probe ord key q) xs i (searched q q (Err i) refl s) in
+          let at = missing (probe ord key q) xs i s in
           (sym (lookup-missing (probe ord key q) at), sym (without-missing (probe ord key q) at), up)

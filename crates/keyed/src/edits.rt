@@ -2,7 +2,6 @@ ghost use Rattle.std.specs.Prelude.{◌≡◌, Bool, true, false};
 ghost use Rattle.bounded.specs.Rows.{rows_of};
 ghost use Rattle.keyed.specs.Rows.{probe, between, rising, Put, Removed};
 
-use crate::order::Order;
 use crate::rows::Keyed;
 use crate::seek::seek;
 use bounded::Table;
@@ -16,20 +15,13 @@ pub fn set_row<R: Keyed + Copy, const N: usize>(
     table: &mut Table<R, N>,
     row: R,
 ) -> Result<Option<R>, TableFull>
-    ensures { rising (between R.Key.Order.order R.key_of) (rows_of table.old) ≡ true → Put (between R.Key.Order.order R.key_of) row N (rows_of table.old) (rows_of table.new) result }
+    ensures { rising (between R.Key.cmp R.key_of) (rows_of table.old) ≡ true → Put (between R.Key.cmp R.key_of) row N (rows_of table.old) (rows_of table.new) result }
 {
     match seek(table.as_slice(), row.key()) {
-        Ok(i) => {
-            let former = table.as_slice()[i];
-            table.replace(i, row);
-            Ok(Some(former))
-        }
+        Ok(i) => Ok(table.replace(i, row)),
         Err(i) => {
-            if table.insert(i, row) {
-                Ok(None)
-            } else {
-                Err(TableFull)
-            }
+            table.insert(i, row).map_err(|_| TableFull)?;
+            Ok(None)
         }
     }
 }
@@ -39,14 +31,10 @@ pub fn remove_row<R: Keyed + Copy, const N: usize>(
     table: &mut Table<R, N>,
     key: &R::Key,
 ) -> Option<R>
-    ensures { rising (between R.Key.Order.order R.key_of) (rows_of table.old) ≡ true → Removed (between R.Key.Order.order R.key_of) (probe R.Key.Order.order R.key_of key.now) (rows_of table.old) (rows_of table.new) result }
+    ensures { rising (between R.Key.cmp R.key_of) (rows_of table.old) ≡ true → Removed (between R.Key.cmp R.key_of) (probe R.Key.cmp R.key_of key.now) (rows_of table.old) (rows_of table.new) result }
 {
-    match seek(table.as_slice(), key) {
-        Ok(i) => {
-            let former = table.as_slice()[i];
-            table.remove(i);
-            Some(former)
-        }
-        Err(_) => None,
-    }
+    let Ok(i) = seek(table.as_slice(), key) else {
+        return None;
+    };
+    table.remove(i)
 }

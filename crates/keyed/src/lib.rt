@@ -3,10 +3,8 @@
 #![tactic(auto)]
 
 pub mod edits;
-pub mod order;
 pub mod rows;
 pub mod seek;
 
 pub use edits::TableFull;
-pub use order::Order;
 pub use rows::Keyed;

@@ -1,8 +1,9 @@
-ghost use Rattle.std.specs.Prelude.{◌≡◌, ℕ, ◌<◌, ◌≤◌, min, Bool, true, false, List, [], length, drop, Decides, MatchResult, ◌==◌};
+ghost use Rattle.std.specs.Prelude.{◌≡◌, ℕ, ◌<◌, ◌≤◌, min, Some, refl, List, [], length, drop, Decides, MatchResult, ◌==◌};
+ghost use Rattle.std.specs.Cmp.{on_equiv, on_total, on_po, on_per, nat_cmp_total, nat_eq_equiv, unsigned_po, unsigned_ties, partial_equiv_from_equiv};
+ghost use Rattle.std.specs.Cmp.Lexicographic.{slice_partial_cmp, lists_per, lists_equiv, lists_po, lists_total, lists_agrees, lists_ties};
 ghost use Rattle.std.specs.Ordering.{nat_cmp};
-ghost use Rattle.std.specs.Cmp.Lexicographic.{slice_cmp};
 ghost use Rattle.fault.specs.declared.bytes_fault.BytesFault.TheVariants.{TooLong};
-ghost use Rattle.bounded.specs.Bytes.{bytes_of};
+ghost use Rattle.bounded.specs.Bytes.{bytes_of, by_bytes, same_bytes};
 
 use crate::ivec::IVec;
 use fault::BytesFault;
@@ -23,13 +24,11 @@ impl<const N: usize> IVec<N> {
     pub fn from_slice(s: &[u8]) -> Result<IVec<N>, BytesFault>
         ensures { MatchResult result (λ v. (bytes_of v ≡ s.now) × (length s.now ≤ min N 255)) (λ e. (e ≡ TooLong) × (min N 255 < length s.now)) }
     {
-        if s.len() > N || s.len() > 255 {
+        if s.len() > N.min(255) {
             return Err(BytesFault::TooLong);
         }
         let mut bytes = [0; N];
-        for i in 0..s.len() {
-            bytes[i] = s[i];
-        }
+        bytes[..s.len()].copy_from_slice(s);
         Ok(IVec {
             bytes,
             len: s.len() as u8,
@@ -51,34 +50,68 @@ impl<const N: usize> IVec<N> {
     pub fn as_slice(&self) -> &[u8]
         ensures { result.now ≡ bytes_of self.now }
     {
-        let all = &self.bytes[..];
-        &all[0..self.len as usize]
+        &self.bytes[..self.len as usize]
     }
 
     // The string without its first n bytes.
     pub fn skip(&self, n: usize) -> IVec<N>
         ensures { bytes_of result ≡ drop n (bytes_of self.now) }
     {
-        if n >= self.len() {
-            return IVec::empty();
-        }
-        let all = self.as_slice();
-        match IVec::from_slice(&all[n..]) {
-            Ok(rest) => rest,
-            Err(_) => unreachable(),
-        }
+        let start = n.min(self.len());
+        let Ok(rest) = IVec::from_slice(&self.as_slice()[start..]) else {
+            unreachable!()
+        };
+        rest
     }
+}
 
-    // The order of the bytes, first to last: a string comes before what it begins.
-    pub fn order(&self, other: &IVec<N>) -> Ordering
-        ensures { result ≡ slice_cmp nat_cmp (bytes_of self.now) (bytes_of other.now) }
-    {
-        self.as_slice().cmp(&other.as_slice())
+impl<const N: usize> Default for IVec<N> {
+    ghost is_default = { λ v. bytes_of v ≡ [] };
+
+    fn default() -> Self {
+        IVec::empty()
     }
+}
 
-    pub fn same(&self, other: &IVec<N>) -> bool
-        ensures { Decides result (self.now ≡ other.now) }
+// Kept: a derive would also read what lies past the length; as a string is its bytes, so are these the comparisons of slices.
+impl<const N: usize> PartialEq for IVec<N> {
+    ghost eq = { same_bytes };
+
+    ghost laws = { on_per bytes_of (lists_per (partial_equiv_from_equiv nat_eq_equiv)) };
+
+    fn eq(&self, other: &Self) -> bool
+        ensures eq { result ≡ same_bytes self.now other.now }
+        ensures value { Decides result (self.now ≡ other.now) }
     {
         self.as_slice() == other.as_slice()
+    }
+}
+
+impl<const N: usize> Eq for IVec<N> {
+    ghost laws = { on_equiv bytes_of (lists_equiv nat_eq_equiv) };
+}
+
+impl<const N: usize> PartialOrd for IVec<N> {
+    ghost partial_cmp = { λ v w. slice_partial_cmp (λ x y. Some (nat_cmp x y)) (bytes_of v) (bytes_of w) };
+
+    ghost laws = { on_po bytes_of (lists_po unsigned_po) };
+
+    fn partial_cmp(&self, other: &Self) -> Option<Ordering> {
+        self.as_slice().partial_cmp(&other.as_slice())
+    }
+}
+
+// The order of the bytes, first to last: a string comes before what it begins.
+impl<const N: usize> Ord for IVec<N> {
+    ghost cmp = { by_bytes };
+
+    ghost total = { on_total bytes_of (lists_total nat_cmp_total) };
+
+    ghost matches_partial_cmp = { λ v w. lists_agrees (λ x y. refl) (bytes_of v) (bytes_of w) };
+
+    ghost matches_eq = { λ v w. lists_ties nat_cmp unsigned_ties (bytes_of v) (bytes_of w) };
+
+    fn cmp(&self, other: &Self) -> Ordering {
+        self.as_slice().cmp(&other.as_slice())
     }
 }

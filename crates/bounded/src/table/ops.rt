@@ -1,35 +1,10 @@
-ghost use Rattle.std.specs.Prelude.{◌≡◌, ℕ, ◌+◌, ◌-◌, ◌<◌, ◌≤◌, Bool, true, false, List, [], ◌∷◌, ◌++◌, length, if◌then◌else◌, Decides, nat_lt, slice_set};
-ghost use Rattle.std.specs.List.{insert, remove};
-ghost use Rattle.bounded.specs.Rows.{rows_of, over};
+ghost use Rattle.std.specs.Prelude.{◌≡◌, ◌≤◌, [], length};
+ghost use Rattle.bounded.specs.Rows.{rows_of, Pushed, Inserted, Removed, Replaced};
 
 use crate::table::Table;
 
-// Opens a place at `i` among the first `len` elements, and puts x there: each later one moves up by one.
-fn open<T: Copy, const N: usize>(all: &mut [T; N], len: usize, i: usize, x: T)
-    requires { (i ≤ len) × ((len < N) × (length all.old ≡ N)) }
-    ensures len { length all.new ≡ N }
-    ensures after { all.new ≡ over (len + 1) (insert all.old i x) all.old }
-{
-    let mut carried = x;
-    for k in i..len + 1 {
-        let next = all[k];
-        all[k] = carried;
-        carried = next;
-    }
-}
-
-// Closes the place `i` among the first `len` elements: each later one moves down by one.
-fn close<T: Copy, const N: usize>(all: &mut [T; N], len: usize, i: usize)
-    requires { (i < len) × ((len ≤ N) × (length all.old ≡ N)) }
-    ensures len { length all.new ≡ N }
-    ensures after { all.new ≡ over (len - 1) (remove all.old i) all.old }
-{
-    for k in i..len - 1 {
-        all[k] = all[k + 1];
-    }
-}
-
 impl<T: Copy, const N: usize> Table<T, N> {
+    // A table of no rows, with `fill` in its spare room.
     pub fn new(fill: T) -> Self
         ensures { rows_of result ≡ [] }
     {
@@ -48,58 +23,56 @@ impl<T: Copy, const N: usize> Table<T, N> {
     pub fn as_slice(&self) -> &[T]
         ensures { result.now ≡ rows_of self.now }
     {
-        let all = &self.rows[..];
-        &all[0..self.len]
+        &self.rows[..self.len]
     }
 
-    // Adds a row at the end, or says false where there is no room, and changes nothing.
-    pub fn push(&mut self, x: T) -> bool
-        ensures fits { result ≡ nat_lt (length (rows_of self.old)) N }
-        ensures rows { rows_of self.new ≡ (if result then rows_of self.old ++ x ∷ [] else rows_of self.old) }
+    // Adds a row at the end, or hands it back where there is no room.
+    pub fn push(&mut self, x: T) -> Result<(), T>
+        ensures { Pushed N x (rows_of self.old) (rows_of self.new) result }
     {
         if self.len >= N {
-            return false;
+            return Err(x);
         }
         self.rows[self.len] = x;
         self.len += 1;
-        true
+        Ok(())
     }
 
-    // Puts a row at the place i, or says false where there is no room or no such place, and changes nothing.
-    pub fn insert(&mut self, i: usize, x: T) -> bool
-        ensures fits { Decides result ((length (rows_of self.old) < N) × (i ≤ length (rows_of self.old))) }
-        ensures rows { rows_of self.new ≡ (if result then insert (rows_of self.old) i x else rows_of self.old) }
+    // Puts a row at the place i, or hands it back where there is no room or no such place.
+    pub fn insert(&mut self, i: usize, x: T) -> Result<(), T>
+        ensures { Inserted N i x (rows_of self.old) (rows_of self.new) result }
     {
         if self.len >= N || i > self.len {
-            return false;
+            return Err(x);
         }
-        open(&mut self.rows, self.len, i, x);
-        self.len += 1;
-        true
-    }
-
-    // Takes away the row at the place i, or says false where there is none.
-    pub fn remove(&mut self, i: usize) -> bool
-        ensures fits { result ≡ nat_lt i (length (rows_of self.old)) }
-        ensures rows { rows_of self.new ≡ (if result then remove (rows_of self.old) i else rows_of self.old) }
-    {
-        if i >= self.len {
-            return false;
-        }
-        close(&mut self.rows, self.len, i);
-        self.len -= 1;
-        true
-    }
-
-    // Writes over the row at the place i, or says false where there is none.
-    pub fn replace(&mut self, i: usize, x: T) -> bool
-        ensures fits { result ≡ nat_lt i (length (rows_of self.old)) }
-        ensures rows { rows_of self.new ≡ slice_set (rows_of self.old) i x }
-    {
-        if i >= self.len {
-            return false;
-        }
+        self.rows.copy_within(i..self.len, i + 1);
         self.rows[i] = x;
-        true
+        self.len += 1;
+        Ok(())
+    }
+
+    // Takes away the row at the place i, if there is one.
+    pub fn remove(&mut self, i: usize) -> Option<T>
+        ensures { Removed i (rows_of self.old) (rows_of self.new) result }
+    {
+        if i >= self.len {
+            return None;
+        }
+        let row = self.rows[i];
+        self.rows.copy_within(i + 1..self.len, i);
+        self.len -= 1;
+        Some(row)
+    }
+
+    // Writes over the row at the place i, if there is one.
+    pub fn replace(&mut self, i: usize, x: T) -> Option<T>
+        ensures { Replaced i x (rows_of self.old) (rows_of self.new) result }
+    {
+        if i >= self.len {
+            return None;
+        }
+        let former = self.rows[i];
+        self.rows[i] = x;
+        Some(former)
     }
 }

@@ -1,12 +1,15 @@
 -- The row that was found is removed, and where none was found nothing is.
 use Rattle.bounded.specs.Rows.{rows_of}
+use Rattle.keyed.specs.Order.{lawful}
 use Rattle.keyed.proofs.Changes.{cut_found, cut_none}
 use Rattle.keyed.proofs.edits.remove_row.Goals as goal
 
-pub returns-in-Ok : goal.returns-in-Ok
-returns-in-Ok g c = λ up.
-    cut_found g.R.Key.Order.order g.R.Keyed.key_of g.R.Key.Order.lawful (rows_of c.args.table.now) c.as_slice.result.now c.as_slice.ensures up c.args.key.now c.in-Ok.i (rows_of c.remove.new.self) c.as_slice-in-Ok.result.now c.index-as_slice-i.result c.remove.result c.in-Ok.ensures.found c.as_slice-in-Ok.ensures c.index-as_slice-i.is c.remove.ensures.fits c.remove.ensures.rows
+pub returns : goal.returns
+returns g c = λ up.
+    let laws = lawful g.met.R.Key.Ord.total g.met.R.Keyed.only_itself in
+    cut_found g.R.Key.Ord.cmp g.R.Keyed.key_of laws (rows_of c.args.table.now) up c.args.key.now c.in-Ok.i (rows_of c.remove.new.self) c.remove.result (rw (← c.as_slice.ensures) (c.in-Ok.ensures.found (rw c.as_slice.ensures up))) c.remove.ensures
 
-pub returns-in-Err : goal.returns-in-Err
-returns-in-Err g c = λ up.
-    cut_none g.R.Key.Order.order g.R.Keyed.key_of g.R.Key.Order.lawful (rows_of c.args.table.now) c.as_slice.result.now c.as_slice.ensures up c.args.key.now c.in-Err.field-0 c.in-Err.ensures.found
+pub returns-in_default : goal.returns-in_default
+returns-in_default g c = λ up.
+    let laws = lawful g.met.R.Key.Ord.total g.met.R.Keyed.only_itself in
+    cut_none g.R.Key.Ord.cmp g.R.Keyed.key_of laws (rows_of c.args.table.now) up c.args.key.now c.in_default.field-0 (rw (← c.as_slice.ensures) (c.in_default.ensures.found (rw c.as_slice.ensures up)))

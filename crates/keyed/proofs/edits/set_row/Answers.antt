@@ -1,16 +1,28 @@
 -- A row that was found is replaced; one that was not is inserted where the search ended, or finds no room.
+use Rattle.std.proofs.Common.{Ok, Err, sym}
 use Rattle.bounded.specs.Rows.{rows_of}
-use Rattle.keyed.proofs.Changes.{set_found, set_new, set_full}
+use Rattle.keyed.specs.declared.edits.TableFull.{TableFull}
+use Rattle.keyed.specs.Order.{lawful}
+use Rattle.keyed.proofs.Changes.{sought, set_found, set_new, set_full}
 use Rattle.keyed.proofs.edits.set_row.Goals as goal
 
 pub returns-in-Ok : goal.returns-in-Ok
 returns-in-Ok g c = λ up.
-    set_found g.R.Key.Order.order g.R.Keyed.key_of g.R.Key.Order.lawful (rows_of c.args.table.now) c.as_slice.result.now c.as_slice.ensures up c.args.row c.key.result.now c.key.ensures c.in-Ok.i (rows_of c.replace.new.self) c.as_slice-in-Ok.result.now c.index-as_slice-i.result c.in-Ok.ensures.found c.as_slice-in-Ok.ensures c.index-as_slice-i.is c.replace.ensures.rows
+    let laws = lawful g.met.R.Key.Ord.total g.met.R.Keyed.only_itself in
+    let rows = rows_of c.args.table.now in
+    let at = sought g.R.Key.Ord.cmp g.R.Keyed.key_of laws rows c.as_slice.result.now c.key.result.now c.args.row (Ok c.in-Ok.i) c.as_slice.ensures c.key.ensures up c.in-Ok.ensures.found in
+    set_found g.R.Key.Ord.cmp g.R.Keyed.key_of laws rows up c.args.row c.in-Ok.i g.row.N (rows_of c.replace.new.self) TableFull c.replace.result at c.replace.ensures
 
-pub returns-then-insert : goal.returns-then-insert
-returns-then-insert g c = λ up.
-    set_new g.R.Key.Order.order g.R.Keyed.key_of g.R.Key.Order.lawful (rows_of c.args.table.now) c.as_slice.result.now c.as_slice.ensures up c.args.row c.key.result.now c.key.ensures c.in-Err.i (rows_of c.insert.new.self) c.in-Err.ensures.found c.if-insert.ensures.rows
+pub returns-in_err-map_err-in-Err : goal.returns-in_err-map_err-in-Err
+returns-in_err-map_err-in-Err g c = λ up.
+    let laws = lawful g.met.R.Key.Ord.total g.met.R.Keyed.only_itself in
+    let rows = rows_of c.args.table.now in
+    let at = sought g.R.Key.Ord.cmp g.R.Keyed.key_of laws rows c.as_slice.result.now c.key.result.now c.args.row (Err c.in-Err.i) c.as_slice.ensures c.key.ensures up c.in-Err.ensures.found in
+    set_full g.R.Key.Ord.cmp g.R.Keyed.key_of laws rows up c.args.row c.in-Err.i g.row.N (rows_of c.insert.new.self) at TableFull c.from_residual.result c.insert.result c.from_residual.ensures.0 (sym c.in_err-map_err-in-Err.ensures.variant) c.insert.ensures
 
-pub returns-else-insert : goal.returns-else-insert
-returns-else-insert g c = λ up.
-    set_full g.R.Key.Order.order g.R.Keyed.key_of g.R.Key.Order.lawful (rows_of c.args.table.now) c.as_slice.result.now c.as_slice.ensures up c.args.row c.key.result.now c.key.ensures c.in-Err.i (rows_of c.insert.new.self) c.in-Err.ensures.found g.row.N c.if-insert.ensures.fits.1 c.if-insert.ensures.rows
+pub returns-in_ok-map_err-in-Err : goal.returns-in_ok-map_err-in-Err
+returns-in_ok-map_err-in-Err g c = λ up.
+    let laws = lawful g.met.R.Key.Ord.total g.met.R.Keyed.only_itself in
+    let rows = rows_of c.args.table.now in
+    let at = sought g.R.Key.Ord.cmp g.R.Keyed.key_of laws rows c.as_slice.result.now c.key.result.now c.args.row (Err c.in-Err.i) c.as_slice.ensures c.key.ensures up c.in-Err.ensures.found in
+    set_new g.R.Key.Ord.cmp g.R.Keyed.key_of laws rows up c.args.row c.in-Err.i g.row.N (rows_of c.insert.new.self) at TableFull c.insert.result (sym c.in_ok-map_err-in-Err.ensures.variant) c.insert.ensures

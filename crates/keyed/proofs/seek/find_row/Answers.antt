@@ -4,12 +4,12 @@ use Rattle.keyed.specs.Rows.{probe}
 use Rattle.keyed.proofs.Places.{found, missing, lookup-found, lookup-missing}
 use Rattle.keyed.proofs.seek.find_row.Goals as goal
 
-pub returns-in-Ok : goal.returns-in-Ok
-returns-in-Ok g c = λ up.
-    let p = probe g.R.Key.Order.order g.R.Keyed.key_of c.args.key.now in
+pub returns : goal.returns
+returns g c = λ up.
+    let p = probe g.R.Key.Ord.cmp g.R.Keyed.key_of c.args.key.now in
     lookup-found p c.index-rows-i.result c.index-rows-i.is (found p c.args.rows.now c.in-Ok.i (c.in-Ok.ensures.found up))
 
-pub returns-in-Err : goal.returns-in-Err
-returns-in-Err g c = λ up.
-    let p = probe g.R.Key.Order.order g.R.Keyed.key_of c.args.key.now in
-    sym (lookup-missing p (missing p c.args.rows.now c.in-Err.field-0 (c.in-Err.ensures.found up)))
+pub returns-in_default : goal.returns-in_default
+returns-in_default g c = λ up.
+    let p = probe g.R.Key.Ord.cmp g.R.Keyed.key_of c.args.key.now in
+    sym (lookup-missing p (missing p c.args.rows.now c.in_default.field-0 (c.in_default.ensures.found up)))

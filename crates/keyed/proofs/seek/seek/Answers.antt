@@ -1,19 +1,12 @@
--- One comparison says on which side of the middle row what is sought stands.
-use Rattle.std.proofs.Common.{Less, Equal, Greater, arith}
-use Rattle.keyed.proofs.Places.{compared}
+use Rattle.std.proofs.Common.{rules}
+use Rattle.std.proofs.lemmas.Fn.{always_returns_same}
+use Rattle.keyed.specs.Order.{lawful}
+use Rattle.keyed.proofs.Places.{searched}
 use Rattle.keyed.proofs.seek.seek.Goals as goal
 
-pub loop-low-preserved-in-Less : goal.loop-low-preserved-in-Less
-loop-low-preserved-in-Less g c =
-    (omega arith, omega arith, λ up. ((c.loop-low.invariant.2 up).0, compared g.R.Key.Order.order g.R.Keyed.key_of g.R.Key.Order.lawful c.args.rows.now up c.args.key.now c.key.result.now _ c.index-rows-mid.result Less c.key.ensures c.index-rows-mid.is (omega arith) c.in-Less.ensures))
-
-pub returns-in-Equal : goal.returns-in-Equal
-returns-in-Equal g c =
-    record {
-      within = omega arith;
-      found = λ up. compared g.R.Key.Order.order g.R.Keyed.key_of g.R.Key.Order.lawful c.args.rows.now up c.args.key.now c.key.result.now _ c.index-rows-mid.result Equal c.key.ensures c.index-rows-mid.is (omega arith) c.in-Equal.ensures;
-    }
-
-pub loop-low-preserved : goal.loop-low-preserved
-loop-low-preserved g c =
-    (omega arith, omega arith, λ up. (compared g.R.Key.Order.order g.R.Keyed.key_of g.R.Key.Order.lawful c.args.rows.now up c.args.key.now c.key.result.now _ c.index-rows-mid.result Greater c.key.ensures c.index-rows-mid.is (omega arith) c.in-Greater.ensures, (c.loop-low.invariant.2 up).1))
+pub returns-clause-found : goal.returns-clause-found
+returns-clause-found g c = λ up.
+    let facts = c.binary_search_by.ensures in
+    let key = g.R.Keyed.key_of in
+    let by_key = facts.position (λ row. g.R.Key.Ord.cmp (key row) c.args.key.now) (always_returns_same _ _ _ (λ a r h called. search rules)) in
+    searched g.R.Key.Ord.cmp key (lawful g.met.R.Key.Ord.total g.met.R.Keyed.only_itself) c.args.rows.now up c.args.key.now c.binary_search_by.result facts.bound by_key
