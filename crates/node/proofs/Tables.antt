@@ -1,15 +1,22 @@
 -- What an edit of a table of rows comes to, as the lists that the rows mean. Assumes nothing.
-use Rattle.std.proofs.Common.{◌≡◌, ℕ, suc, ◌≤◌, Bool, true, false, cond, ltb, List, [], ◌∷◌, map, length, is_some, Some, None, Ok, Err, Option, Ordering, Less, Equal, Greater, sym, refl, ap, ◌∙◌, subst, arith}
+use Rattle.std.proofs.Common.{◌≡◌, ℕ, suc, ◌≤◌, Bool, true, false, cond, ltb, List, [], ◌∷◌, map, length, is_some, Some, None, Ok, Err, Option, Result, is_ok, Ordering, Less, Equal, Greater, sym, refl, ap, ◌∙◌, subst, arith}
 use Rattle.std.specs.Option.{option_map}
 use Rattle.std.proofs.lemmas.List.{length-map, length-take-le}
-use Rattle.std.proofs.lemmas.Bool.{lt-ltb, le-ltb}
+use Rattle.std.proofs.lemmas.Bool.{lt-ltb, le-ltb, true≢false}
 use Rattle.bounded.specs.Rows.{rows_of}
 use Rattle.bounded.specs.declared.table.Table.{Table}
 use Rattle.keyed.specs.Rows.{by, rising, lookup, put, without, Put, Removed}
 use Rattle.keyed.proofs.Places.{Found, here, later}
 use Rattle.keyed.proofs.Meanings.{mapped_lookup, map-put, map-without, map-rising}
 use Rattle.node.specs.Nodes.{Str, Row, by_key, sought, ordered}
-use Rattle.node.specs.Links.{room_for}
+use Rattle.node.specs.Links.{Changed, room_for, set_root, page_of, root_for}
+use Rattle.node.specs.Meanings.{IndexRow, index_row, roots_of}
+use Rattle.node.specs.Outcomes.{meta_of}
+use Rattle.node.specs.declared.meta.Meta.{Meta}
+use Rattle.fault.specs.declared.node_fault.NodeFault.TheVariants.{TooManyRoots}
+use Rattle.keyed.specs.declared.edits.TableFull.{TableFull}
+use Rattle.bounded.specs.Bytes.{bytes_of}
+use Rattle.bounded.specs.declared.ivec.IVec.{IVec}
 
 -- ---- how many rows a put leaves
 
@@ -45,6 +52,10 @@ found_some p (later e s) = rw e (found_some p s)
 pub some_mapped : {R S : Type 0} (f : R → S) (o : Option R) → is_some o ≡ true → is_some (option_map f o) ≡ true
 some_mapped f None e = e
 some_mapped f (Some x) e = refl
+
+pub mapped_some : {R S : Type 0} (f : R → S) (o : Option R) → is_some (option_map f o) ≡ is_some o
+mapped_some f None = refl
+mapped_some f (Some x) = refl
 
 -- ---- rows of any kind that means rows by keys
 
@@ -83,3 +94,33 @@ module _ {R V : Type 0} (f : R → Row V) where
 -- the rows of a table of n places are at most n
 pub few-rows : {R : Type 0} {n : ℕ} (t : Table R n) → length (rows_of t) ≤ n
 few-rows t = let few = t.few in let room = t.room in let l = length-take-le t.len t.rows (omega arith) in omega arith
+
+-- ---- roots
+
+-- the page of a root that was found
+pub page-is : (o : Option IndexRow) (p : Option ℕ) → p ≡ option_map (λ r. r.value) o → p ≡ page_of (option_map index_row o)
+page-is None p e = e
+page-is (Some r) p e = e
+
+module _ (name : IVec 24) (pid : ℕ) (m : Meta) (t : Table IndexRow 8) where
+  wanted : Bool → Changed (List (Row ℕ))
+  wanted b = cond b (Ok (put (sought (bytes_of name)) (bytes_of name, pid) (meta_of m))) (Err TooManyRoots)
+
+  -- what putting the root leaves and answers
+  abbrev pub Puts : Result (Option IndexRow) TableFull → Type 0
+  Puts u = rising (row_order index_row) (rows_of m.roots) ≡ true → Put {E = TableFull} (row_order index_row) (record { key = name; value = pid }) 8 (rows_of m.roots) (rows_of t) u
+
+  pub root_ordered : (u : Result (Option IndexRow) TableFull) → Puts u → ordered (roots_of (rows_of t)) ≡ true
+  root_ordered (Ok former) done = (put_done index_row TableFull 8 (record { key = name; value = pid }) (rows_of m.roots) (rows_of t) m.ruled former done (few-rows t)).2
+  root_ordered (Err x) done = ap ordered (ap roots_of (done (rises index_row (rows_of m.roots) m.ruled)).2) ∙ m.ruled
+
+  pub root_ok : (u : Result (Option IndexRow) TableFull) (former : Option IndexRow) (p : Option ℕ) → u ≡ Ok former → p ≡ option_map (λ r. r.value) former → Puts u → (set_root (bytes_of name) pid (meta_of m) ≡ Ok (roots_of (rows_of t))) × (p ≡ root_for (bytes_of name) (meta_of m))
+  unfolding wanted
+  root_ok u former p is value done =
+      let h = put_done index_row TableFull 8 (record { key = name; value = pid }) (rows_of m.roots) (rows_of t) m.ruled former (subst Puts is done) (few-rows t) in
+      (ap wanted h.0 ∙ ap Ok (sym h.1), page-is former p value ∙ ap page_of h.3)
+
+  pub root_err : (u : Result (Option IndexRow) TableFull) → is_ok u ≡ false → Puts u → (set_root (bytes_of name) pid (meta_of m) ≡ Err TooManyRoots) × (roots_of (rows_of t) ≡ meta_of m)
+  unfolding wanted
+  root_err (Ok former) h done = absurd (true≢false h)
+  root_err (Err x) h done = (ap wanted (put_refused index_row TableFull 8 (record { key = name; value = pid }) (rows_of m.roots) (rows_of t) m.ruled x done), ap roots_of (done (rises index_row (rows_of m.roots) m.ruled)).2)

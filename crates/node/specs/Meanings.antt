@@ -5,9 +5,8 @@ use Rattle.std.specs.Option.{option_map}
 use Rattle.keyed.specs.Rows.{Searched}
 use Rattle.bounded.specs.Bytes.{bytes_of}
 use Rattle.bounded.specs.Rows.{rows_of}
-use Rattle.node.specs.declared.rows.LeafRow.{LeafRow}
-use Rattle.node.specs.declared.rows.IndexRow.{IndexRow}
-use Rattle.node.specs.declared.rows.Root.{Root}
+use Rattle.bounded.specs.declared.ivec.IVec.{IVec}
+use Rattle.node.specs.declared.rows.Row.{Row as Kept}
 use Rattle.node.specs.declared.data.Data.{Data}
 use Rattle.node.specs.declared.data.Data.TheVariants.{Index, Leaf}
 use Rattle.node.specs.declared.link.Link.{Link}
@@ -16,14 +15,22 @@ use Rattle.node.specs.declared.parts.NodeParts.{NodeParts}
 use Rattle.node.specs.Nodes.{Str, Row, Rows, index, leaf, Contents}
 use Rattle.node.specs.Links.{Step, set, del, intend, confirm, cap, pointing}
 
+-- the rows of a leaf, and those of an index and of a Meta
+abbrev pub LeafRow : Type 0
+LeafRow = Kept (IVec 40)
+
+abbrev pub IndexRow : Type 0
+IndexRow = Kept ℕ
+
+-- a row, by what its value means
+abbrev pub row_of : {V M : Type 0} → (V → M) → Kept V → Row M
+row_of meaning r = (bytes_of r.key, meaning r.value)
+
 abbrev pub leaf_row : LeafRow → Row Str
-leaf_row r = (bytes_of r.key, bytes_of r.value)
+leaf_row = row_of bytes_of
 
 abbrev pub index_row : IndexRow → Row ℕ
-index_row r = (bytes_of r.key, r.pointer)
-
-abbrev pub root_row : Root → Row ℕ
-root_row r = (bytes_of r.name, r.page)
+index_row = row_of (λ p. p)
 
 abbrev pub data_of : Data → Rows
 data_of (Index t) = index (map index_row (rows_of t))
@@ -34,8 +41,8 @@ abbrev pub Pointed : ℕ → List IndexRow → Option ℕ → Type 0
 Pointed p rows (Some i) = Searched (λ r. pointing p (index_row r)) rows (Ok i)
 Pointed p rows None = Searched (λ r. pointing p (index_row r)) rows (Err (length rows))
 
-abbrev pub roots_of : List Root → List (Row ℕ)
-roots_of roots = map root_row roots
+abbrev pub roots_of : List IndexRow → List (Row ℕ)
+roots_of roots = map index_row roots
 
 abbrev pub parts_of : NodeParts → Contents
 parts_of p = record {

@@ -82,22 +82,16 @@ impl Node {
         if self.parts.merging_child.is_some() {
             return Err(NodeFault::BadChild);
         }
-        match NonZeroU64::new(pid) {
-            Some(child) => {
-                self.parts.merging_child = Some(child);
-                Ok(())
-            }
-            None => Err(NodeFault::BadChild),
-        }
+        let child = NonZeroU64::new(pid).ok_or(NodeFault::BadChild)?;
+        self.parts.merging_child = Some(child);
+        Ok(())
     }
 
     // Removes the child that has been merged away.
     fn confirm(&mut self) -> Result<(), NodeFault>
         ensures { Does node_of self.old self.new (confirm_in (node_of self.old) (node_of self.old).child) result }
     {
-        let Some(child) = self.parts.merging_child else {
-            return Err(NodeFault::BadChild);
-        };
+        let child = self.parts.merging_child.ok_or(NodeFault::BadChild)?;
         self.parts.data.parent_merge_confirm(child.get())?;
         self.parts.merging_child = None;
         Ok(())

@@ -5,7 +5,7 @@ ghost use Rattle.node.specs.Links.{set_rows, del_rows, confirm_rows, split_rows}
 ghost use Rattle.node.specs.Outcomes.{Does, Answers};
 ghost use Rattle.node.specs.Meanings.{data_of, Pointed};
 
-use crate::rows::{IndexRow, Key, LeafRow, Value};
+use crate::rows::{IndexRow, Key, LeafRow, ROWS, Value};
 use bounded::Table;
 use fault::{NodeFault, PageId};
 use keyed::edits::{remove_row, set_row};
@@ -14,8 +14,8 @@ use keyed::seek::{find_row, is_rising};
 // The rows of a node, of its kind.
 #[derive(Clone, Copy)]
 pub enum Data {
-    Index(Table<IndexRow, 16>),
-    Leaf(Table<LeafRow, 16>),
+    Index(Table<IndexRow, ROWS>),
+    Leaf(Table<LeafRow, ROWS>),
 }
 
 impl Data {
@@ -23,22 +23,14 @@ impl Data {
     pub fn empty_leaf() -> Data
         ensures { data_of result ≡ leaf [] }
     {
-        let fill = LeafRow {
-            key: Key::empty(),
-            value: Value::empty(),
-        };
-        Data::Leaf(Table::new(fill))
+        Data::Leaf(Table::new(LeafRow::default()))
     }
 
     // An index with no rows.
     pub fn empty_index() -> Data
         ensures { data_of result ≡ index [] }
     {
-        let fill = IndexRow {
-            key: Key::empty(),
-            pointer: 0,
-        };
-        Data::Index(Table::new(fill))
+        Data::Index(Table::new(IndexRow::default()))
     }
 
     // How many rows there are.
@@ -66,20 +58,11 @@ impl Data {
         ensures does { Does data_of self.old self.new (set_rows (bytes_of key) (bytes_of value) (data_of self.old)) result }
         ensures ordered { ordered_rows (data_of self.new) ≡ true }
     {
-        match *self {
-            Data::Index(_) => Err(NodeFault::WrongKind),
-            Data::Leaf(old) => {
-                let mut rows = old;
-                match set_row(&mut rows, LeafRow { key, value }) {
-                    Ok(_) => {
-                        let data = Data::Leaf(rows);
-                        *self = data;
-                        Ok(())
-                    }
-                    Err(_) => Err(NodeFault::Full),
-                }
-            }
-        }
+        let Data::Leaf(rows) = self else {
+            return Err(NodeFault::WrongKind);
+        };
+        set_row(rows, LeafRow { key, value }).map_err(|_| NodeFault::Full)?;
+        Ok(())
     }
 
     pub(crate) fn del(&mut self, key: &Key) -> Result<(), NodeFault>
@@ -87,16 +70,11 @@ impl Data {
         ensures does { Does data_of self.old self.new (del_rows (bytes_of key.now) (data_of self.old)) result }
         ensures ordered { ordered_rows (data_of self.new) ≡ true }
     {
-        match *self {
-            Data::Index(_) => Err(NodeFault::WrongKind),
-            Data::Leaf(old) => {
-                let mut rows = old;
-                remove_row(&mut rows, key);
-                let data = Data::Leaf(rows);
-                *self = data;
-                Ok(())
-            }
-        }
+        let Data::Leaf(rows) = self else {
+            return Err(NodeFault::WrongKind);
+        };
+        remove_row(rows, key);
+        Ok(())
     }
 
     // Removes the first row that points to the child, which has been merged away.
@@ -104,21 +82,12 @@ impl Data {
         ensures does { Does data_of self.old self.new (confirm_rows merged_child_pid (data_of self.old)) result }
         ensures ordered { ordered_rows (data_of self.old) ≡ true → ordered_rows (data_of self.new) ≡ true }
     {
-        match *self {
-            Data::Leaf(_) => Err(NodeFault::WrongKind),
-            Data::Index(old) => {
-                let mut rows = old;
-                match place_of(rows.as_slice(), merged_child_pid) {
-                    Some(i) => {
-                        rows.remove(i);
-                        let data = Data::Index(rows);
-                        *self = data;
-                        Ok(())
-                    }
-                    None => Err(NodeFault::NoPointer),
-                }
-            }
-        }
+        let Data::Index(rows) = self else {
+            return Err(NodeFault::WrongKind);
+        };
+        let i = place_of(rows.as_slice(), merged_child_pid).ok_or(NodeFault::NoPointer)?;
+        rows.remove(i);
+        Ok(())
     }
 
     // Adds a row for a new key, and says whether it is new.
@@ -127,23 +96,14 @@ impl Data {
         ensures does { Answers data_of self.old self.new (split_rows (bytes_of key) to (data_of self.old)) result }
         ensures ordered { ordered_rows (data_of self.new) ≡ true }
     {
-        match *self {
-            Data::Leaf(_) => Err(NodeFault::WrongKind),
-            Data::Index(old) => {
-                let mut rows = old;
-                if let Some(_) = find_row(rows.as_slice(), &key) {
-                    return Ok(false);
-                }
-                match set_row(&mut rows, IndexRow { key, pointer: to }) {
-                    Ok(_) => {
-                        let data = Data::Index(rows);
-                        *self = data;
-                        Ok(true)
-                    }
-                    Err(_) => Err(NodeFault::Full),
-                }
-            }
+        let Data::Index(rows) = self else {
+            return Err(NodeFault::WrongKind);
+        };
+        if find_row(rows.as_slice(), &key).is_some() {
+            return Ok(false);
         }
+        set_row(rows, IndexRow { key, value: to }).map_err(|_| NodeFault::Full)?;
+        Ok(true)
     }
 }
 
@@ -151,10 +111,5 @@ impl Data {
 fn place_of(rows: &[IndexRow], page: PageId) -> Option<usize>
     ensures { Pointed page rows.now result }
 {
-    for (i, row) in rows.iter().enumerate() {
-        if row.pointer == page {
-            return Some(i);
-        }
-    }
-    None
+    rows.iter().position(|row| row.value == page)
 }

@@ -5,7 +5,6 @@ ghost use Rattle.node.specs.Meanings.{parts_of};
 
 use crate::data::Data;
 use crate::rows::Key;
-use std::cmp::Ordering;
 use std::num::NonZeroU64;
 
 // The parts of a node, which may break its rules.
@@ -46,23 +45,14 @@ impl NodeParts {
     pub fn is_lawful(&self) -> bool
         ensures { result ≡ lawful (parts_of self.now) }
     {
-        if !self.hi.is_empty() && self.prefix_len as usize > self.hi.len() {
-            return false;
-        }
-        self.data.is_ordered()
+        let prefixed = self.hi.is_empty() || self.prefix_len as usize <= self.hi.len();
+        prefixed && self.data.is_ordered()
     }
 
     // Whether a key, without the prefix, is below the upper bound.
     pub(crate) fn is_inside(&self, key: &Key) -> bool
         ensures { result ≡ inside (bytes_of key.now) (parts_of self.now) }
     {
-        if self.hi.is_empty() {
-            return true;
-        }
-        let bound = self.hi.skip(self.prefix_len as usize);
-        match key.order(&bound) {
-            Ordering::Less => true,
-            _ => false,
-        }
+        self.hi.is_empty() || *key < self.hi.skip(self.prefix_len as usize)
     }
 }

@@ -1,16 +1,15 @@
 ghost use Rattle.std.specs.Prelude.{◌≡◌, Bool, true, false, [], MatchResult};
 ghost use Rattle.bounded.specs.Bytes.{bytes_of};
 ghost use Rattle.bounded.specs.Rows.{rows_of};
-ghost use Rattle.std.specs.Option.{option_map};
 ghost use Rattle.fault.specs.declared.node_fault.NodeFault.TheVariants.{Unlawful};
 ghost use Rattle.keyed.specs.Rows.{without};
 ghost use Rattle.node.specs.Nodes.{ordered, sought};
-ghost use Rattle.node.specs.Links.{set_root, page_of, root_for};
-ghost use Rattle.node.specs.Meanings.{root_row, roots_of};
+ghost use Rattle.node.specs.Links.{set_root, root_for};
+ghost use Rattle.node.specs.Meanings.{roots_of};
 ghost use Rattle.node.specs.Outcomes.{meta_of, Roots};
 
 use crate::meta::Meta;
-use crate::rows::{Key, Root};
+use crate::rows::{Key, ROOTS, Root};
 use bounded::Table;
 use fault::{NodeFault, PageId};
 use keyed::edits::{remove_row, set_row};
@@ -22,15 +21,12 @@ impl Meta {
         ensures { meta_of result ≡ [] }
     {
         Meta {
-            roots: Table::new(Root {
-                name: Key::empty(),
-                page: 0,
-            }),
+            roots: Table::new(Root::default()),
         }
     }
 
     // The Meta of these roots, whose names have to rise.
-    pub fn new(roots: Table<Root, 8>) -> Result<Meta, NodeFault>
+    pub fn new(roots: Table<Root, ROOTS>) -> Result<Meta, NodeFault>
         ensures { MatchResult result (λ meta. meta.roots ≡ roots) (λ e. (e ≡ Unlawful) × (ordered (roots_of (rows_of roots)) ≡ false)) }
     {
         if !is_rising(roots.as_slice()) {
@@ -45,28 +41,30 @@ impl Meta {
         self.roots.as_slice()
     }
 
+    // The same with the room that is left.
+    pub fn table(&self) -> &Table<Root, ROOTS>
+        ensures { result.now ≡ self.now.roots }
+    {
+        &self.roots
+    }
+
     // The page of a name.
     pub fn get_root(&self, table: &Key) -> Option<PageId>
         ensures { result ≡ root_for (bytes_of table.now) (meta_of self.now) }
     {
-        match find_row(self.roots.as_slice(), table) {
-            Some(root) => Some(root.page),
-            None => None,
-        }
+        find_row(self.roots.as_slice(), table).map(|root| root.value)
     }
 
     // Sets the page of a name, and answers the page that it had.
     pub fn set_root(&mut self, name: Key, pid: PageId) -> Result<Option<PageId>, NodeFault>
         ensures { Roots (bytes_of name) (set_root (bytes_of name) pid (meta_of self.old)) self.old self.new result }
     {
-        let mut roots = self.roots;
-        match set_row(&mut roots, Root { name, page: pid }) {
-            Ok(former) => {
-                self.roots = roots;
-                Ok(page_of(former))
-            }
-            Err(_) => Err(NodeFault::TooManyRoots),
-        }
+        let root = Root {
+            key: name,
+            value: pid,
+        };
+        let former = set_row(&mut self.roots, root).map_err(|_| NodeFault::TooManyRoots)?;
+        Ok(former.map(|root| root.value))
     }
 
     // Removes a name, and answers the page that it had.
@@ -74,16 +72,6 @@ impl Meta {
         ensures after { meta_of self.new ≡ without (sought (bytes_of name.now)) (meta_of self.old) }
         ensures value { result ≡ root_for (bytes_of name.now) (meta_of self.old) }
     {
-        page_of(remove_row(&mut self.roots, name))
-    }
-}
-
-// The page that a root stands for.
-fn page_of(root: Option<Root>) -> Option<PageId>
-    ensures { result ≡ page_of (option_map root_row root) }
-{
-    match root {
-        Some(root) => Some(root.page),
-        None => None,
+        remove_row(&mut self.roots, name).map(|root| root.value)
     }
 }

@@ -1,4 +1,5 @@
-ghost use Rattle.std.specs.Prelude.{◌≡◌, ◌^◌, ◌<◌};
+ghost use Rattle.std.specs.Prelude.{◌≡◌};
+ghost use Rattle.keyed.specs.Order.{bytes_only};
 
 use bounded::IVec;
 use fault::PageId;
@@ -15,55 +16,30 @@ pub const ROWS: usize = 16;
 // How many roots there are at most.
 pub const ROOTS: usize = 8;
 
-// A row of a leaf.
-#[derive(Clone, Copy)]
-pub struct LeafRow {
+// A key and what it leads to.
+#[derive(Clone, Copy, Default)]
+pub struct Row<V> {
     pub key: Key,
-    pub value: Value,
+    pub value: V,
 }
+
+// A row of a leaf.
+pub type LeafRow = Row<Value>;
 
 // A row of an index: the page where keys from this one on are.
-#[derive(Clone, Copy)]
-pub struct IndexRow {
-    pub key: Key,
-    pub pointer: PageId,
-    ghost fits: { pointer < 2 ^ 64 },
-}
+pub type IndexRow = Row<PageId>;
 
 // A name and the page that it stands for.
-#[derive(Clone, Copy)]
-pub struct Root {
-    pub name: Key,
-    pub page: PageId,
-    ghost fits: { page < 2 ^ 64 },
-}
+pub type Root = Row<PageId>;
 
-impl Keyed for LeafRow {
+impl<V> Keyed for Row<V> {
     type Key = Key;
 
     ghost key_of = { λ row. row.key };
 
-    fn key(&self) -> &Key {
-        &self.key
-    }
-}
-
-impl Keyed for IndexRow {
-    type Key = Key;
-
-    ghost key_of = { λ row. row.key };
+    ghost only_itself = { bytes_only };
 
     fn key(&self) -> &Key {
         &self.key
-    }
-}
-
-impl Keyed for Root {
-    type Key = Key;
-
-    ghost key_of = { λ root. root.name };
-
-    fn key(&self) -> &Key {
-        &self.name
     }
 }

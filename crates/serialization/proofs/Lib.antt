@@ -1,4 +1,5 @@
 pub mod Sizes
 pub mod Writing
+pub mod Listed
 pub mod Reading
 pub mod Whole

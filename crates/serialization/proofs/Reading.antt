@@ -1,5 +1,5 @@
 -- What a reader makes of bytes, step by step. Assumes nothing.
-use Rattle.std.proofs.Common.{◌≡◌, ℕ, zero, suc, ◌+◌, ◌-◌, ◌<◌, ◌≤◌, cond, ltb, List, [], ◌∷◌, ◌++◌, length, take, drop, sym, refl, ap, ◌∙◌, subst, append_assoc, append-nil, arith}
+use Rattle.std.proofs.Common.{◌≡◌, ℕ, zero, suc, ◌+◌, ◌-◌, ◌<◌, ◌≤◌, cond, ltb, min, Ok, Err, Result, List, [], ◌∷◌, ◌++◌, length, take, drop, sym, refl, ap, ◌∙◌, subst, append_assoc, append-nil, arith}
 use native.Mathlib.Nat.{sub-zero}
 use Rattle.std.proofs.lemmas.Bool.{lt-ltb, le-ltb}
 use Rattle.fault.specs.declared.bytes_fault.BytesFault.{BytesFault}
@@ -7,7 +7,11 @@ use Rattle.fault.specs.declared.bytes_fault.BytesFault.TheVariants.{TooLong, Unl
 use Rattle.serialization.specs.Parsing.{Parsed, read, unlawful, fault, and_then, times}
 use Rattle.serialization.specs.Numbers.{join_groups, parse_groups, parse_number}
 use Rattle.serialization.specs.Formats.{parse_string, parse_list}
-use Rattle.serialization.specs.Calls.{Stops, Refuses}
+use Rattle.serialization.specs.Calls.{Stops, Refuses, Takes}
+use Rattle.std.specs.Result.{MatchResult}
+use Rattle.std.proofs.lemmas.List.{length-take-le}
+use Rattle.bounded.specs.Bytes.{bytes_of}
+use Rattle.bounded.specs.declared.ivec.IVec.{IVec}
 use Rattle.serialization.specs.Numbering.{parse-more}
 
 -- where the first part stops, the whole does
@@ -69,6 +73,14 @@ module _ (most n : ℕ) (bs rest : List ℕ) (e : parse_number bs ≡ read n res
 
   pub string_read : n ≤ most → n ≤ length rest → parse_string most bs ≡ read (take n rest) (drop n rest)
   string_read h l = within h ∙ ap (λ t. cond t (fault EndsEarly) (read (take n rest) (drop n rest))) (le-ltb (length rest) n l)
+
+-- the body of a string, taken as one
+pub string_taken : (N n : ℕ) (bs rest body after : List ℕ) (r : Result (IVec N) BytesFault) → parse_number bs ≡ read n rest → n ≤ N → N < 128 → n ≤ length rest → body ≡ take n rest → after ≡ drop n rest → MatchResult r (λ v. (bytes_of v ≡ body) × (length body ≤ min N 255)) (λ e. (e ≡ TooLong) × (min N 255 < length body)) → Takes bytes_of (parse_string N bs) after r
+string_taken N n bs rest body after (Ok v) e h small l front back made = string_read N n bs rest e h l ∙ (λ i. read ((sym front ∙ sym made.0) i) (sym back i))
+string_taken N n bs rest body after (Err x) e h small l front back made =
+    let k = ap length front in
+    let t = length-take-le n rest l in
+    absurd (omega (arith, made.1))
 
 pub string_stops : (most : ℕ) (bs : List ℕ) (e : BytesFault) → Stops (parse_number bs) e → Stops (parse_string most bs) e
 unfolding parse_string

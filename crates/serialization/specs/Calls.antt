@@ -1,17 +1,8 @@
 -- What writing and reading leave and answer. Assumes nothing.
-use Rattle.std.specs.Prelude.{◌≡◌, ℕ, ◌+◌, ◌<◌, ◌≤◌, List, [], ◌∷◌, ◌++◌, length, take, drop, Ok, Err, Result}
+use Rattle.std.specs.Prelude.{◌≡◌, ℕ, ◌<◌, ◌≤◌, List, [], ◌∷◌, ◌++◌, length, drop, Ok, Err, Result}
 use Rattle.fault.specs.declared.bytes_fault.BytesFault.{BytesFault}
 use Rattle.fault.specs.declared.bytes_fault.BytesFault.TheVariants.{TooLong, Unlawful, EndsEarly, BadNumber, OutOfRange, LeftOver, ScratchTooSmall}
 use Rattle.serialization.specs.Parsing.{Parsed, read, unlawful, fault}
-
--- out with the bytes written over it from the place `at` on
-abbrev pub written : ℕ → List ℕ → List ℕ → List ℕ
-written at bs out = take at out ++ (bs ++ drop (at + length bs) out)
-
--- the bytes stand from `at` up to `end`
-pub record Wrote (at : ℕ) (bs before after : List ℕ) (end : ℕ) : Type 0 where
-  pub ends : end ≡ at + length bs
-  pub bytes : after ≡ written at bs before
 
 -- a payload's bytes at the front of the scratch, and how many; or the scratch is too small, and nothing changed
 abbrev pub Writes : List ℕ → List ℕ → List ℕ → Result ℕ BytesFault → Type 0

@@ -24,11 +24,15 @@ FitsNumber n = n < 2 ^ 64
 abbrev pub FitsString : ℕ → Str → Type 0
 FitsString most s = length s ≤ most
 
+-- a row whose value fits
+abbrev pub FitsRow : {V : Type 0} → (V → Type 0) → Row V → Type 0
+FitsRow P r = FitsString 24 r.0 × P r.1
+
 abbrev pub FitsLeaf : Row Str → Type 0
-FitsLeaf r = FitsString 24 r.0 × FitsString 40 r.1
+FitsLeaf = FitsRow (FitsString 40)
 
 abbrev pub FitsIndex : Row ℕ → Type 0
-FitsIndex r = FitsString 24 r.0 × FitsNumber r.1
+FitsIndex = FitsRow FitsNumber
 
 abbrev pub FitsList : {V : Type 0} → ℕ → (V → Type 0) → List V → Type 0
 FitsList most P xs = (length xs ≤ most) × Every P xs
@@ -48,6 +52,14 @@ FitsRows (leaf rows) = FitsList 16 FitsLeaf rows
 abbrev pub FitsPage : Option ℕ → Type 0
 FitsPage None = Unit {0}
 FitsPage (Some p) = (0 < p) × FitsNumber p
+
+-- the parts of a node, lawful or not
+pub record FitsParts (c : Contents) : Type 0 where
+  pub next : FitsPage c.next
+  pub child : FitsPage c.child
+  pub lo : FitsString 24 c.lo
+  pub hi : FitsString 24 c.hi
+  pub rows : FitsRows c.rows
 
 pub record FitsNode (c : Contents) : Type 0 where
   pub next : FitsPage c.next

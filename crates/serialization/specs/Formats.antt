@@ -16,19 +16,25 @@ unfoldable pub parse_string : ℕ → List ℕ → Parsed Str
 parse_string most bs =
     and_then (parse_number bs) (λ n rest. cond (nat_lt most n) (fault OutOfRange) (cond (nat_lt (length rest) n) (fault EndsEarly) (read (take n rest) (drop n rest))))
 
--- ---- rows: a key and its value or page
+-- ---- rows: a key, and then what it leads to
+
+abbrev pub row_bytes : {V : Type 0} → (V → List ℕ) → Row V → List ℕ
+row_bytes bytes r = str_bytes r.0 ++ bytes r.1
+
+abbrev pub parse_row : {V : Type 0} → (List ℕ → Parsed V) → List ℕ → Parsed (Row V)
+parse_row parse bs = and_then (parse_string 24 bs) (λ k rest. and_then (parse rest) (λ v after. read (k, v) after))
 
 abbrev pub leaf_bytes : Row Str → List ℕ
-leaf_bytes r = str_bytes r.0 ++ str_bytes r.1
+leaf_bytes = row_bytes str_bytes
 
 abbrev pub parse_leaf : List ℕ → Parsed (Row Str)
-parse_leaf bs = and_then (parse_string 24 bs) (λ k rest. and_then (parse_string 40 rest) (λ v after. read (k, v) after))
+parse_leaf = parse_row (parse_string 40)
 
 abbrev pub index_bytes : Row ℕ → List ℕ
-index_bytes r = str_bytes r.0 ++ number r.1
+index_bytes = row_bytes number
 
 abbrev pub parse_index : List ℕ → Parsed (Row ℕ)
-parse_index bs = and_then (parse_string 24 bs) (λ k rest. and_then (parse_number rest) (λ p after. read (k, p) after))
+parse_index = parse_row parse_number
 
 -- ---- lists: the count, then each
 

@@ -3,6 +3,7 @@ pub mod Numbers
 pub mod Formats
 pub mod Fitting
 pub mod Calls
+pub mod Writing
 pub mod Numbering
 pub mod Parts
 pub mod Laws

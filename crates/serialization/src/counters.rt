@@ -6,8 +6,9 @@ ghost use Rattle.serialization.specs.Fitting.{FitsNumber};
 ghost use Rattle.serialization.specs.Numbering.{number-back, number-only};
 ghost use Rattle.serialization.specs.Laws.{free_back, free_only};
 
-use crate::groups::{put_number, take_number};
-use crate::serialize::{Free, PAYLOAD, Serialize};
+use crate::piece::{Piece, read_front, write_front};
+use crate::serialize::{Free, Serialize};
+use crate::writer::Writer;
 use fault::BytesFault;
 
 // A number that only grows.
@@ -27,18 +28,32 @@ impl Serialize for u64 {
     ghost only = { number-only };
 
     fn serialize_into(&self, buf: &mut [u8]) -> Result<usize, BytesFault> {
-        if buf.len() < PAYLOAD {
-            return Err(BytesFault::ScratchTooSmall);
-        }
-        Ok(put_number(*self, buf, 0))
+        write_front(self, buf)
     }
 
     fn deserialize(buf: &mut &[u8]) -> Result<u64, BytesFault> {
-        let mut rest = *buf;
-        let value = take_number(&mut rest)?;
-        *buf = rest;
-        Ok(value)
+        read_front(buf)
     }
+}
+
+impl Piece for Free {
+    ghost Meaning = { Unit {0} };
+
+    ghost meaning = { λ _. tt };
+
+    ghost bytes = { λ _. [] };
+
+    ghost parse = { λ bs. read tt bs };
+
+    ghost Fits = { λ _. Unit {0} };
+
+    ghost most = { 0 };
+
+    fn take(_buf: &mut &[u8]) -> Result<Free, BytesFault> {
+        Ok(Free)
+    }
+
+    fn put(&self, _to: &mut Writer) {}
 }
 
 impl Serialize for Free {
@@ -57,13 +72,10 @@ impl Serialize for Free {
     ghost only = { free_only };
 
     fn serialize_into(&self, buf: &mut [u8]) -> Result<usize, BytesFault> {
-        if buf.len() < PAYLOAD {
-            return Err(BytesFault::ScratchTooSmall);
-        }
-        Ok(0)
+        write_front(self, buf)
     }
 
-    fn deserialize(_buf: &mut &[u8]) -> Result<Free, BytesFault> {
-        Ok(Free)
+    fn deserialize(buf: &mut &[u8]) -> Result<Free, BytesFault> {
+        read_front(buf)
     }
 }

@@ -8,7 +8,8 @@ pub mod links;
 mod lists;
 pub mod metas;
 pub mod nodes;
-mod pieces;
+mod piece;
 pub mod serialize;
+mod writer;
 
 pub use serialize::{Free, PAYLOAD, Serialize};

@@ -1,41 +1,49 @@
 // Tables of rows as bytes: the count, and then each row.
-ghost use Rattle.std.specs.Prelude.{◌≡◌, ℕ, ◌+◌, ◌*◌, ◌<◌, ◌≤◌, List, map, length};
+ghost use Rattle.std.specs.Prelude.{ℕ, ◌+◌, ◌*◌, List, map};
 ghost use Rattle.bounded.specs.Rows.{rows_of};
-ghost use Rattle.serialization.specs.Formats.{list_bytes, parse_list};
-ghost use Rattle.serialization.specs.Calls.{Wrote, Takes};
+ghost use Rattle.node.specs.Nodes.{Row};
+ghost use Rattle.node.specs.Meanings.{row_of};
+ghost use Rattle.serialization.specs.Formats.{row_bytes, parse_row, list_bytes, parse_list};
+ghost use Rattle.serialization.specs.Fitting.{FitsRow, FitsList};
 
-use crate::groups::{put_number, take_number};
-use crate::pieces::RowBytes;
+use crate::piece::Piece;
+use crate::writer::Writer;
 use bounded::Table;
 use fault::BytesFault;
+use node::Row;
 
-// Takes at most N rows; `fill` is what the spare places hold.
-pub(crate) fn take_rows<R: RowBytes, const N: usize>(
-    buf: &mut &[u8],
-    fill: R,
-) -> Result<Table<R, N>, BytesFault>
-    ensures { Takes (λ t. map R.meaning (rows_of t)) (parse_list N R.parse buf.old.now) buf.new.now result }
-{
-    let count = take_number(buf)?;
-    if count > N as u64 {
-        return Err(BytesFault::OutOfRange);
-    }
-    let mut rows = Table::new(fill);
-    for i in 0..count {
-        let row = R::take(buf)?;
-        rows.push(row);
-    }
-    Ok(rows)
-}
+impl<V: Piece + Copy + Default, const N: usize> Piece for Table<Row<V>, N> {
+    ghost Meaning = { List (Row V.Meaning) };
 
-pub(crate) fn put_rows<R: RowBytes>(rows: &[R], out: &mut [u8], at: usize) -> usize
-    requires { (length rows.now < 128) × (at + 1 + 66 * length rows.now ≤ length out.old) }
-    ensures wrote { Wrote at (list_bytes R.bytes (map R.meaning rows.now)) out.old out.new result }
-    ensures bound { result ≤ at + 1 + 66 * length rows.now }
-{
-    let mut end = put_number(rows.len() as u64, out, at);
-    for row in rows {
-        end = row.put(out, end);
+    ghost meaning = { λ t. map (row_of V.meaning) (rows_of t) };
+
+    ghost bytes = { list_bytes (row_bytes V.bytes) };
+
+    ghost parse = { parse_list N (parse_row V.parse) };
+
+    ghost Fits = { FitsList N (FitsRow V.Fits) };
+
+    ghost most = { 10 + N * (25 + V.most) };
+
+    fn take(buf: &mut &[u8]) -> Result<Self, BytesFault> {
+        let count = u64::take(buf)?;
+        if count > N as u64 {
+            return Err(BytesFault::OutOfRange);
+        }
+        let mut rows = Table::new(Row::default());
+        for _ in 0..count {
+            let row = Row::take(buf)?;
+            let Ok(()) = rows.push(row) else {
+                unreachable!()
+            };
+        }
+        Ok(rows)
     }
-    end
+
+    fn put(&self, to: &mut Writer) {
+        (self.len() as u64).put(to);
+        for row in self.as_slice() {
+            row.put(to);
+        }
+    }
 }

@@ -42,31 +42,26 @@ pub trait Serialize: Sized {
     ghost only: { ReadsOnly bytes parse };
 }
 
+// What is made of a whole payload: bytes left over are told before a broken rule.
+fn read_whole<S: Serialize + Drop>(payload: &[u8]) -> Result<S, BytesFault>
+    ensures { Decodes S.value (whole (S.parse payload.now)) result }
+{
+    let mut rest = payload;
+    let read = S::deserialize(&mut rest);
+    let whole = rest.is_empty();
+    match read {
+        Ok(value) if whole => Ok(value),
+        Err(BytesFault::Unlawful) if whole => Err(BytesFault::Unlawful),
+        Ok(_) | Err(BytesFault::Unlawful) => Err(BytesFault::LeftOver),
+        Err(fault) => Err(fault),
+    }
+}
+
 // The value of a whole payload.
 pub fn decode<S: Serialize + Drop>(payload: &[u8]) -> Result<S, BytesFault>
     ensures reads { Decodes S.value (whole (S.parse payload.now)) result }
     ensures back { (v : S.Value) → S.Fits v → payload.now ≡ S.bytes v → Decodes S.value (Ok v) result }
     ensures only { (x : S) → result ≡ Ok x → payload.now ≡ S.bytes (S.value x) }
 {
-    let mut rest = payload;
-    let read = S::deserialize(&mut rest);
-    match read {
-        Ok(value) => {
-            if rest.is_empty() {
-                Ok(value)
-            } else {
-                Err(BytesFault::LeftOver)
-            }
-        }
-        Err(fault) => match fault {
-            BytesFault::Unlawful => {
-                if rest.is_empty() {
-                    Err(fault)
-                } else {
-                    Err(BytesFault::LeftOver)
-                }
-            }
-            _ => Err(fault),
-        },
-    }
+    read_whole(payload)
 }

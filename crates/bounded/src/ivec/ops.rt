@@ -1,7 +1,7 @@
-ghost use Rattle.std.specs.Prelude.{◌≡◌, ℕ, ◌<◌, ◌≤◌, min, Some, refl, List, [], length, drop, Decides, MatchResult, ◌==◌};
-ghost use Rattle.std.specs.Cmp.{on_equiv, on_total, on_po, on_per, nat_cmp_total, nat_eq_equiv, unsigned_po, unsigned_ties, partial_equiv_from_equiv};
-ghost use Rattle.std.specs.Cmp.Lexicographic.{slice_partial_cmp, lists_per, lists_equiv, lists_po, lists_total, lists_agrees, lists_ties};
-ghost use Rattle.std.specs.Ordering.{nat_cmp};
+ghost use Rattle.std.specs.Prelude.{◌≡◌, ℕ, ◌<◌, ◌≤◌, min, refl, List, [], length, drop, Decides, MatchResult, ◌==◌};
+ghost use Rattle.std.specs.Cmp.{on_equiv, on_total, on_per, partial_order_from_agreeing_total, nat_cmp_total, nat_eq_equiv, unsigned_ties, partial_equiv_from_equiv};
+ghost use Rattle.std.specs.Cmp.Lexicographic.{lists_per, lists_equiv, lists_total, lists_ties};
+ghost use Rattle.std.specs.Ordering.{nat_cmp, as_partial_cmp};
 ghost use Rattle.fault.specs.declared.bytes_fault.BytesFault.TheVariants.{TooLong};
 ghost use Rattle.bounded.specs.Bytes.{bytes_of, by_bytes, same_bytes};
 
@@ -92,12 +92,12 @@ impl<const N: usize> Eq for IVec<N> {
 }
 
 impl<const N: usize> PartialOrd for IVec<N> {
-    ghost partial_cmp = { λ v w. slice_partial_cmp (λ x y. Some (nat_cmp x y)) (bytes_of v) (bytes_of w) };
+    ghost partial_cmp = { as_partial_cmp by_bytes };
 
-    ghost laws = { on_po bytes_of (lists_po unsigned_po) };
+    ghost laws = { partial_order_from_agreeing_total by_bytes (on_total bytes_of (lists_total nat_cmp_total)) (λ v w. refl) (λ v w. lists_ties nat_cmp unsigned_ties (bytes_of v) (bytes_of w)) };
 
     fn partial_cmp(&self, other: &Self) -> Option<Ordering> {
-        self.as_slice().partial_cmp(&other.as_slice())
+        Some(self.cmp(other))
     }
 }
 
@@ -107,7 +107,7 @@ impl<const N: usize> Ord for IVec<N> {
 
     ghost total = { on_total bytes_of (lists_total nat_cmp_total) };
 
-    ghost matches_partial_cmp = { λ v w. lists_agrees (λ x y. refl) (bytes_of v) (bytes_of w) };
+    ghost matches_partial_cmp = { λ v w. refl };
 
     ghost matches_eq = { λ v w. lists_ties nat_cmp unsigned_ties (bytes_of v) (bytes_of w) };
 
