@@ -66,10 +66,7 @@ pub fn payload_of(heap: Global, words: &[&str]) -> Result<Vec<u8>, LineFault>
 {
     let mut bytes = Vec::new(heap);
     for word in words {
-        let Some(byte) = hex_word(word) else {
-            return Err(LineFault::Unknown);
-        };
-        bytes.push(byte)?;
+        bytes.push(hex_word(word).ok_or(LineFault::Unknown)?)?;
     }
     Ok(bytes)
 }
@@ -86,19 +83,10 @@ fn first_byte(text: &[u8]) -> Option<(u8, &[u8])>
     ensures first { MatchOption result (0 < length text.now → spelled text.now ≡ None) (λ p. spelled text.now ≡ before (Some p.0) (spelled p.1.now)) }
     ensures shorter { IfSome result (λ p. length p.1.now < length text.now) }
 {
-    let [byte, rest @ ..] = text else {
-        return None;
-    };
-    if *byte == b'%' {
-        let [high, low, rest @ ..] = rest else {
-            return None;
-        };
-        return Some((hex_byte(*high, *low)?, rest));
-    }
-    if is_plain(*byte) {
-        Some((*byte, rest))
-    } else {
-        None
+    match text {
+        [b'%', high, low, rest @ ..] => Some((hex_byte(*high, *low)?, rest)),
+        [byte, rest @ ..] if is_plain(*byte) => Some((*byte, rest)),
+        _ => None,
     }
 }
 
@@ -109,9 +97,7 @@ fn decoded(heap: Global, text: &[u8]) -> Result<Vec<u8>, LineFault>
     let mut bytes = Vec::new(heap);
     let mut rest = text;
     while !rest.is_empty() {
-        let Some((byte, more)) = first_byte(rest) else {
-            return Err(LineFault::Unknown);
-        };
+        let (byte, more) = first_byte(rest).ok_or(LineFault::Unknown)?;
         bytes.push(byte)?;
         rest = more;
     }
@@ -135,15 +121,14 @@ pub struct Hex<'a>(pub &'a [u8]);
 
 impl fmt::Display for Hex<'_> {
     fn fmt<W: fmt::Write>(&self, f: &mut fmt::Formatter<W>) -> fmt::Result {
-        if self.0.is_empty() {
+        let [first, rest @ ..] = self.0 else {
             return f.write_str("-");
-        }
-        for (i, byte) in self.0.iter().enumerate() {
-            if i > 0 {
-                f.write_str(" ")?;
-            }
+        };
+        let (high, low) = hex_digits(*first);
+        write!(f, "{high}{low}")?;
+        for byte in rest {
             let (high, low) = hex_digits(*byte);
-            write!(f, "{high}{low}")?;
+            write!(f, " {high}{low}")?;
         }
         Ok(())
     }
