@@ -38,8 +38,9 @@ impl fmt::Display for Tally {
             proposed,
             differ,
         } = self;
-        write!(f, "live {live} cancelled {cancelled} full {full} ")?;
-        write!(f, "moved {moved} read {read} unread {unread} ")?;
-        write!(f, "proposed {proposed} differ {differ}")
+        write!(
+            f,
+            "live {live} cancelled {cancelled} full {full} moved {moved} read {read} unread {unread} proposed {proposed} differ {differ}"
+        )
     }
 }

@@ -1,6 +1,6 @@
 // Bytes and strings as the lines write them.
-ghost use Rattle.std.specs.Prelude.{◌≡◌, ◌/◌, ◌%◌, ◌<◌, length, IfSome, Some, None, MatchOption, MatchResult};
-ghost use Rattle.payload.specs.Faults.{Lacks};
+ghost use Rattle.std.specs.Prelude.{◌≡◌, ◌/◌, ◌%◌, ◌<◌, length, IfSome, Some, None, MatchOption};
+ghost use Rattle.payload.specs.Faults.{Finds};
 ghost use Rattle.payload.specs.Spelling.{hex_value, hex_byte, hex_digit, hex_word, hex_words, texts, before, is_plain, spelled, string_of};
 
 use crate::line_fault::LineFault;
@@ -12,12 +12,7 @@ fn hex_value(digit: u8) -> Option<u8>
     ensures value { result ≡ hex_value digit }
     ensures bound { IfSome result (λ v. v < 16) }
 {
-    match digit {
-        b'0'..=b'9' => Some(digit - b'0'),
-        b'A'..=b'F' => Some(digit - b'A' + 10),
-        b'a'..=b'f' => Some(digit - b'a' + 10),
-        _ => None,
-    }
+    (digit as char).to_digit(16).map(|value| value as u8)
 }
 
 // The byte that two digits of base sixteen make.
@@ -42,6 +37,7 @@ fn hex_digit(value: u8) -> u8
 }
 
 // The two digits of a byte, which make it again.
+// Kept: the contract holds what is printed to what is read; no contract says that of {:02X} in a Display.
 fn hex_digits(byte: u8) -> (char, char)
     ensures high { result.0 ≡ hex_digit (byte / 16) }
     ensures low { result.1 ≡ hex_digit (byte % 16) }
@@ -62,7 +58,7 @@ fn hex_word(word: &str) -> Option<u8>
 
 // The bytes of words of two digits each.
 pub fn payload_of(heap: Global, words: &[&str]) -> Result<Vec<u8>, LineFault>
-    ensures { MatchResult result (λ v. hex_words (texts words.now) ≡ Some v.items) (Lacks (hex_words (texts words.now))) }
+    ensures { Finds (hex_words (texts words.now)) result }
 {
     let mut bytes = Vec::new(heap);
     for word in words {
@@ -92,7 +88,7 @@ fn first_byte(text: &[u8]) -> Option<(u8, &[u8])>
 
 // The bytes that a text stands for.
 fn decoded(heap: Global, text: &[u8]) -> Result<Vec<u8>, LineFault>
-    ensures { MatchResult result (λ v. spelled text.now ≡ Some v.items) (Lacks (spelled text.now)) }
+    ensures { Finds (spelled text.now) result }
 {
     let mut bytes = Vec::new(heap);
     let mut rest = text;
@@ -106,7 +102,7 @@ fn decoded(heap: Global, text: &[u8]) -> Result<Vec<u8>, LineFault>
 
 // The string of a word: % and two digits stand for a byte, a plain byte for itself, and a lone % for the empty string.
 pub fn unescaped(heap: Global, word: &str) -> Result<Vec<u8>, LineFault>
-    ensures { MatchResult result (λ v. string_of word.now ≡ Some v.items) (Lacks (string_of word.now)) }
+    ensures { Finds (string_of word.now) result }
 {
     match word {
         "" => Err(LineFault::Unknown),
