@@ -1,10 +1,10 @@
 // Random calls on a log, and what a plain model says of each.
-use crate::model::{Model, Plain, Shape, inline_place, place};
+use crate::model::{Model, Plain, Shape};
 use crate::random::Random;
 use crate::tally::{Tally, count};
-use fault::{BlobPointer, DiskPtr, PageId};
+use fault::{DiskPtr, PageId};
 use logs::{CacheInfo, Kind, Log, LogFault, Reservation, Returned, Status};
-use std::alloc::{AllocError, Global};
+use std::alloc::AllocError;
 
 #[derive(Drop)]
 pub struct Drill<L> {
@@ -15,7 +15,7 @@ pub struct Drill<L> {
 }
 
 // Ends a reservation that no log takes.
-pub fn give_up(reservation: Reservation) {
+fn give_up(reservation: Reservation) {
     let log = reservation.log();
     let lsn = reservation.lsn();
     let pointer = reservation.pointer();
@@ -23,6 +23,13 @@ pub fn give_up(reservation: Reservation) {
         Ok(()) => {}
         Err(_) => unreachable(),
     }
+}
+
+// Why a reservation was given back, which ends here.
+pub fn refusal(returned: Returned) -> LogFault {
+    let Returned { reservation, fault } = returned;
+    give_up(reservation);
+    fault
 }
 
 // The bytes of a payload: each differs from the one before.
@@ -34,15 +41,13 @@ fn fill(bytes: &mut [u8], seed: u8) {
     }
 }
 
-fn kind_of(n: u64) -> Kind {
-    match n % 5 {
-        0 => Kind::Counter,
-        1 => Kind::Free,
-        2 => Kind::Meta,
-        3 => Kind::Link,
-        _ => Kind::Node,
-    }
-}
+static KINDS: [Kind; 5] = [
+    Kind::Counter,
+    Kind::Free,
+    Kind::Meta,
+    Kind::Link,
+    Kind::Node,
+];
 
 fn entry_of(plain: &Plain) -> CacheInfo {
     CacheInfo {
@@ -53,35 +58,18 @@ fn entry_of(plain: &Plain) -> CacheInfo {
     }
 }
 
+// Whether it was refused with this fault.
+fn refused(got: Result<Reservation, LogFault>, fault: LogFault) -> bool {
+    got.map(give_up) == Err(fault)
+}
+
 // While it is pending nothing else is reserved, and it is not read.
 fn refuses_meanwhile<L: Log>(log: &mut L, page: PageId, reservation: &Reservation) -> bool {
     let mut scratch = [0u8; 1152];
     let pointer = reservation.pointer();
-    let hidden = log.read(page, reservation.lsn(), pointer, &mut scratch)
-        == Err(LogFault::NoMessage(page, pointer));
-    match log.reserve(page, Kind::Free, b"") {
-        Ok(other) => {
-            give_up(other);
-            false
-        }
-        Err(fault) => hidden && fault == LogFault::Pending(page),
-    }
-}
-
-// Completes or aborts it: the fault of a log that did not take it.
-fn settle<L: Log>(log: &mut L, reservation: Reservation, keep: bool) -> Option<LogFault> {
-    let taken = if keep {
-        log.complete(reservation)
-    } else {
-        log.abort(reservation)
-    };
-    match taken {
-        Ok(()) => None,
-        Err(Returned { reservation, fault }) => {
-            give_up(reservation);
-            Some(fault)
-        }
-    }
+    let read = log.read(page, reservation.lsn(), pointer, &mut scratch);
+    let other = log.reserve(page, Kind::Free, b"");
+    refused(other, LogFault::Pending(page)) && read == Err(LogFault::NoMessage(page, pointer))
 }
 
 // A reservation of another log, or of a message that is not pending, is given back.
@@ -89,52 +77,27 @@ fn refuses_strangers<L: Log>(log: &mut L, reservation: &Reservation) -> bool {
     let number = reservation.log();
     let lsn = reservation.lsn();
     let pointer = reservation.pointer();
-    let another = settle(log, Reservation::new(number ^ 1, lsn, pointer), true);
-    let later = settle(log, Reservation::new(number, lsn ^ 1, pointer), false);
-    another == Some(LogFault::NotPending(pointer)) && later == Some(LogFault::NotPending(pointer))
-}
-
-// Whether it was refused with this fault.
-fn refused(got: Result<Reservation, LogFault>, fault: LogFault) -> bool {
-    match got {
-        Ok(reservation) => {
-            give_up(reservation);
-            false
-        }
-        Err(other) => other == fault,
-    }
-}
-
-fn blob_at(place: Option<(u64, Shape)>, slot: BlobPointer) -> Option<(DiskPtr, Shape)> {
-    let (lid, shape) = place?;
-    Some((DiskPtr::Blob(lid, slot), shape))
-}
-
-fn next_live(plains: &[Plain]) -> Option<Plain> {
-    for plain in plains {
-        if plain.status == Status::Live {
-            return Some(*plain);
-        }
-    }
-    None
+    let another = log
+        .complete(Reservation::new(number ^ 1, lsn, pointer))
+        .map_err(refusal);
+    let later = log
+        .abort(Reservation::new(number, lsn ^ 1, pointer))
+        .map_err(refusal);
+    let expected = Err(LogFault::NotPending(pointer));
+    another == expected && later == expected
 }
 
 fn is_zero(bytes: &[u8]) -> bool {
-    for byte in bytes {
-        if *byte != 0 {
-            return false;
-        }
-    }
-    true
+    bytes.iter().all(|byte| *byte == 0)
 }
 
 // Whether so many bytes are a payload's, and the others zero.
 fn is_filled(bytes: &[u8; 1152], seed: u8, len: usize) -> bool {
     let mut expected = [0u8; 1152];
-    if len > 1152 {
+    let Some(payload) = expected.get_mut(..len) else {
         return false;
-    }
-    fill(&mut expected[0..len], seed);
+    };
+    fill(payload, seed);
     *bytes == expected
 }
 
@@ -144,21 +107,37 @@ impl<L: Log> Drill<L> {
             log,
             model,
             random,
-            tally: Tally::new(),
+            tally: Tally::default(),
         }
     }
 
     // A message that was written once, if any; mostly the next live one from a random place on.
     fn pick(&mut self) -> Option<Plain> {
-        let n = self.model.plains.len();
-        if n == 0 {
-            return None;
-        }
-        let i = (self.random.draw() % n as u64) as usize;
+        let from = self.random.index(self.model.plains.len())?;
+        let mut rest = self.model.plains.iter().copied().skip(from);
         if self.random.draw() % 4 == 0 {
-            return Some(self.model.plains[i]);
+            return rest.next();
         }
-        next_live(&self.model.plains.as_slice()[i..n])
+        rest.find(|plain| plain.status == Status::Live)
+    }
+
+    // The page of a message, or another.
+    fn page_for(&mut self, plain: &Plain) -> PageId {
+        if self.random.draw() % 4 == 0 {
+            plain.page ^ 1
+        } else {
+            plain.page
+        }
+    }
+
+    // Completes a reservation or, now and then, aborts it.
+    fn settle(&mut self, reservation: Reservation) -> (Result<(), Returned>, Status) {
+        if self.random.draw() % 8 == 0 {
+            count(&mut self.tally.cancelled);
+            return (self.log.abort(reservation), Status::Cancelled);
+        }
+        count(&mut self.tally.live);
+        (self.log.complete(reservation), Status::Live)
     }
 
     // A pending message is settled, and the model has it too.
@@ -168,46 +147,29 @@ impl<L: Log> Drill<L> {
         plain: Plain,
         shape: Shape,
     ) -> Result<(), AllocError> {
-        let keep = self.random.draw() % 8 != 0;
         let same = reservation.lsn() == plain.lsn && reservation.pointer() == plain.pointer;
         let alone = refuses_meanwhile(&mut self.log, plain.page, &reservation)
             && refuses_strangers(&mut self.log, &reservation);
-        let taken = settle(&mut self.log, reservation, keep).is_none();
+        let (taken, status) = self.settle(reservation);
+        let taken = taken.map_err(refusal).is_ok();
         self.tally.expect(same && alone && taken);
-        let status = if keep {
-            Status::Live
-        } else {
-            Status::Cancelled
-        };
-        count(if keep {
-            &mut self.tally.live
-        } else {
-            &mut self.tally.cancelled
-        });
         self.model.add(Plain { status, ..plain }, shape)
     }
 
-    // What a call that reserves did, and what the model says of it.
+    // What a call that reserves for a page did, and what the model says of it: the message, and the shape after that.
     fn compare(
         &mut self,
+        page: PageId,
         got: Result<Reservation, LogFault>,
-        plain: Plain,
-        expected: Option<(DiskPtr, Shape)>,
+        expected: Option<(Plain, Shape)>,
     ) -> Result<(), AllocError> {
         match (got, expected) {
-            (Ok(reservation), Some((pointer, shape))) => self.finish(
-                reservation,
-                Plain { pointer, ..plain },
-                shape,
-            ),
-            (Ok(reservation), None) => {
-                self.tally.expect(false);
-                give_up(reservation);
-                Ok(())
-            }
-            (Err(fault), None) => {
-                self.tally.expect(fault == LogFault::Full(plain.page));
-                count(&mut self.tally.full);
+            (Ok(reservation), Some((plain, shape))) => self.finish(reservation, plain, shape),
+            (got, None) => {
+                if got.is_err() {
+                    count(&mut self.tally.full);
+                }
+                self.tally.expect(refused(got, LogFault::Full(page)));
                 Ok(())
             }
             (Err(_), Some(_)) => {
@@ -219,23 +181,25 @@ impl<L: Log> Drill<L> {
 
     fn write(&mut self) -> Result<(), AllocError> {
         let page = self.random.draw() % 8;
-        let kind = kind_of(self.random.draw());
+        let kind = KINDS[(self.random.draw() % 5) as usize];
         let len = (self.random.draw() % 1200) as usize;
         let seed = (self.random.draw() % 256) as u8;
         let mut bytes = [0u8; 1200];
         fill(&mut bytes, seed);
-        let expected = place(self.model.plains.as_slice(), self.model.shape, len as u64);
-        let plain = Plain {
-            lsn: self.model.next,
-            pointer: DiskPtr::Inline(0),
-            page,
-            kind,
-            len,
-            seed,
-            status: Status::Pending,
-        };
-        let got = self.log.reserve(page, kind, &bytes[0..len]);
-        self.compare(got, plain, expected)
+        let expected = self.model.place(len as u64).map(|(pointer, shape)| {
+            let plain = Plain {
+                lsn: self.model.next,
+                pointer,
+                page,
+                kind,
+                len,
+                seed,
+                status: Status::Pending,
+            };
+            (plain, shape)
+        });
+        let got = self.log.reserve(page, kind, &bytes[..len]);
+        self.compare(page, got, expected)
     }
 }
 
@@ -245,23 +209,29 @@ impl<L: Log> Drill<L> {
         let Some(plain) = self.pick() else {
             return Ok(());
         };
-        let got = self
-            .log
-            .rewrite_blob_pointer(plain.page, plain.lsn, plain.pointer);
-        let live = self.model.live_at(plain.lsn, plain.pointer);
-        match (plain.pointer, live) {
+        let Plain {
+            page,
+            lsn,
+            pointer,
+            ..
+        } = plain;
+        let got = self.log.rewrite_blob_pointer(page, lsn, pointer);
+        match (pointer, self.model.live_at(lsn, pointer)) {
             (DiskPtr::Blob(_, slot), Some(source)) => {
                 count(&mut self.tally.moved);
-                let room = inline_place(self.model.plains.as_slice(), self.model.shape, 32);
-                let moved = Plain {
-                    lsn: self.model.next,
-                    ..source
-                };
-                self.compare(got, moved, blob_at(room, slot))
+                let expected = self.model.inline_place(32).map(|(lid, shape)| {
+                    let plain = Plain {
+                        lsn: self.model.next,
+                        pointer: DiskPtr::Blob(lid, slot),
+                        ..source
+                    };
+                    (plain, shape)
+                });
+                self.compare(page, got, expected)
             }
             _ => {
-                let same = refused(got, LogFault::NoMessage(plain.page, plain.pointer));
-                self.tally.expect(same);
+                self.tally
+                    .expect(refused(got, LogFault::NoMessage(page, pointer)));
                 Ok(())
             }
         }
@@ -272,28 +242,20 @@ impl<L: Log> Drill<L> {
         let Some(plain) = self.pick() else {
             return;
         };
-        let page = if self.random.draw() % 4 == 0 {
-            plain.page ^ 1
-        } else {
-            plain.page
-        };
+        let page = self.page_for(&plain);
         let mut scratch = [0u8; 1152];
         let got = self.log.read(page, plain.lsn, plain.pointer, &mut scratch);
         let same = match self.model.live_at(plain.lsn, plain.pointer) {
             None => got == Err(LogFault::NoMessage(page, plain.pointer)) && is_zero(&scratch),
-            Some(live) => {
-                if live.page == page {
-                    got == Ok((live.kind, live.len)) && is_filled(&scratch, live.seed, live.len)
-                } else {
-                    got == Err(LogFault::OtherPage(page, plain.pointer)) && is_zero(&scratch)
-                }
+            Some(live) if live.page == page => {
+                got == Ok((live.kind, live.len)) && is_filled(&scratch, live.seed, live.len)
             }
+            Some(_) => got == Err(LogFault::OtherPage(page, plain.pointer)) && is_zero(&scratch),
         };
-        count(if got.is_ok() {
-            &mut self.tally.read
-        } else {
-            &mut self.tally.unread
-        });
+        match got {
+            Ok(_) => count(&mut self.tally.read),
+            Err(_) => count(&mut self.tally.unread),
+        }
         self.tally.expect(same);
     }
 
@@ -302,11 +264,7 @@ impl<L: Log> Drill<L> {
         let Some(plain) = self.pick() else {
             return;
         };
-        let page = if self.random.draw() % 4 == 0 {
-            plain.page ^ 1
-        } else {
-            plain.page
-        };
+        let page = self.page_for(&plain);
         let entry = entry_of(&plain);
         self.log.sa_mark_replace(page, &[entry]);
         self.model.mark(page, entry);
@@ -317,24 +275,21 @@ impl<L: Log> Drill<L> {
         if got.is_some() {
             count(&mut self.tally.proposed);
         }
-        let same = got == self.model.proposal();
-        self.tally.expect(same);
+        self.tally.expect(got == self.model.proposal());
     }
 
     // Tells a stable position, which never falls.
     fn tell(&mut self) {
         let lsn = self.random.draw() % 4096;
         self.log.make_durable(lsn);
-        if self.model.stable < lsn {
-            self.model.stable = lsn;
-        }
-        let same = self.log.stable() == self.model.stable;
-        self.tally.expect(same);
+        self.model.stable = self.model.stable.max(lsn);
+        self.tally.expect(self.log.stable() == self.model.stable);
     }
 
     fn step(&mut self) -> Result<(), AllocError> {
+        // Kept: how often a step is taken stands beside its call; in a table of closures each would borrow the whole drill.
         match self.random.draw() % 8 {
-            0 | 1 | 2 => self.write()?,
+            0..=2 => self.write()?,
             3 => self.shift()?,
             4 | 5 => self.mark(),
             6 => self.propose(),
@@ -344,10 +299,10 @@ impl<L: Log> Drill<L> {
         Ok(())
     }
 
-    pub fn run(&mut self, heap: Global, steps: u64) -> Result<(), AllocError> {
+    pub fn run(&mut self, steps: u64) -> Result<(), AllocError> {
         for _ in 0..steps {
             self.step()?;
-            self.model.prune(heap)?;
+            self.model.prune();
         }
         Ok(())
     }

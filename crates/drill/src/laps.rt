@@ -1,8 +1,10 @@
 // A stopwatch over a log: how long reserve with complete takes, and a read, when so much of its room is taken.
-use crate::drilling::give_up;
+ghost use Rattle.std.specs.Prelude.{◌<◌};
+
+use crate::drilling::refusal;
 use crate::random::Random;
 use fault::PageId;
-use logs::{CacheInfo, Kind, Log, Returned};
+use logs::{CacheInfo, Kind, Log, LogFault};
 use std::io;
 use std::time::Instant;
 
@@ -17,87 +19,79 @@ pub struct Lap {
     pub read: u64,
 }
 
+impl Lap {
+    // The better of both.
+    pub fn best(self, other: Lap) -> Lap {
+        Lap {
+            write: self.write.min(other.write),
+            read: self.read.min(other.read),
+        }
+    }
+}
+
 // The entry of a message of 100 bytes that is live now.
-fn write<L: Log>(log: &mut L, page: PageId) -> Option<CacheInfo> {
-    let Ok(reservation) = log.reserve(page, Kind::Node, &[7u8; 100]) else {
-        return None;
-    };
+fn write<L: Log>(log: &mut L, page: PageId) -> Result<CacheInfo, LogFault> {
+    let reservation = log.reserve(page, Kind::Node, &[7u8; 100])?;
     let entry = CacheInfo {
         ts: 0,
         lsn: reservation.lsn(),
         pointer: reservation.pointer(),
         log_size: 0,
     };
-    match log.complete(reservation) {
-        Ok(()) => Some(entry),
-        Err(
-            Returned {
-                reservation,
-                fault: _,
-            },
-        ) => {
-            give_up(reservation);
-            None
-        }
-    }
+    log.complete(reservation).map_err(refusal)?;
+    Ok(entry)
 }
 
-fn write_many<L: Log>(log: &mut L) -> bool {
-    let mut all = true;
+fn write_many<L: Log>(log: &mut L) -> Result<(), LogFault> {
     for page in 0..WRITES {
-        all = write(log, page).is_some() && all;
+        write(log, page)?;
     }
-    all
+    Ok(())
 }
 
-fn read_many<L: Log>(log: &L, entries: &[CacheInfo], scratch: &mut [u8]) -> bool {
-    let n = entries.len();
+// Reads messages at random, of which the one at i is page i's.
+fn read_many<L: Log>(log: &L, entries: &[CacheInfo]) -> Result<(), LogFault> {
+    let mut scratch = [0u8; 1152];
     let mut random = Random::new(9);
-    let mut all = n > 0;
     for _ in 0..READS {
-        if n > 0 {
-            let i = (random.draw() % n as u64) as usize;
+        if let Some(i) = random.index(entries.len()) {
             let entry = entries[i];
-            all = log
-                .read(i as u64, entry.lsn, entry.pointer, scratch)
-                .is_ok()
-                && all;
-        }
-    }
-    all
-}
-
-// Each page from 0 on has one live message.
-fn fill<L: Log>(log: &mut L, entries: &mut Vec<CacheInfo>, count: u64) -> io::Result<()> {
-    for page in 0..count {
-        if let Some(entry) = write(log, page) {
-            entries.push(entry)?;
+            log.read(i as u64, entry.lsn, entry.pointer, &mut scratch)?;
         }
     }
     Ok(())
 }
 
-// Whether every call did what it should, and what one took.
-pub fn run_lap<L: Log>(rt: &HostRuntime, log: &mut L, count: u64) -> io::Result<(bool, Lap)> {
+// Each page from 0 on has one live message.
+fn fill<L: Log>(rt: &HostRuntime, log: &mut L, count: u64) -> io::Result<Vec<CacheInfo>> {
     let mut entries = Vec::new(rt.alloc());
-    fill(log, &mut entries, count)?;
-    let start = Instant::now(rt)?;
-    let read = read_many(log, entries.as_slice(), &mut [0u8; 1152]);
-    let reading = start.elapsed(rt)?.as_nanos() / READS as u128;
-    let start = Instant::now(rt)?;
-    let written = write_many(log);
-    let writing = start.elapsed(rt)?.as_nanos() / WRITES as u128;
-    let lap = Lap {
-        write: (writing % 1000000000) as u64,
-        read: (reading % 1000000000) as u64,
-    };
-    Ok((read && written, lap))
+    for page in 0..count {
+        if let Ok(entry) = write(log, page) {
+            entries.push(entry)?;
+        }
+    }
+    Ok(entries)
 }
 
-// The better of both.
-pub fn best(a: Lap, b: Lap) -> Lap {
-    Lap {
-        write: a.write.min(b.write),
-        read: a.read.min(b.read),
-    }
+// What so many calls made, and the nanoseconds that each took.
+fn timed<T: Drop, F: FnOnce() -> T>(rt: &HostRuntime, calls: u64, run: F) -> io::Result<(T, u64)>
+    requires some { 0 < calls }
+    requires runs { F.IsAlwaysCallable run }
+{
+    let start = Instant::now(rt)?;
+    let made = run();
+    let taken = start.elapsed(rt)?.as_nanos() / calls as u128;
+    Ok((made, u64::try_from(taken).unwrap_or(u64::MAX)))
+}
+
+// What a call takes, if every call does what it should.
+pub fn run_lap<L: Log>(
+    rt: &HostRuntime,
+    log: &mut L,
+    count: u64,
+) -> io::Result<Result<Lap, LogFault>> {
+    let entries = fill(rt, log, count)?;
+    let (all_read, read) = timed(rt, READS, || read_many(log, entries.as_slice()))?;
+    let (all_written, write) = timed(rt, WRITES, || write_many(log))?;
+    Ok(all_read.and(all_written).map(|()| Lap { write, read }))
 }

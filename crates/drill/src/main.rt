@@ -9,43 +9,45 @@ mod random;
 mod tally;
 
 use drilling::Drill;
-use laps::{Lap, best, run_lap};
-use model::{Model, Shape};
+use laps::{Lap, run_lap};
+use logs::Log;
+use model::{Model, Segments, Shape};
 use random::Random;
 use segmented::Segmented;
-use std::alloc::Global;
 use std::{env, io};
-use tally::Tally;
 use tape::Tape;
 
-fn model_of(heap: Global, shape: Shape) -> Model {
-    Model {
-        plains: Vec::new(heap),
-        next: 1,
-        stable: 0,
-        shape,
-    }
+// Drills a log that is empty and has this shape.
+fn run<L: Log + Drop>(
+    rt: &HostRuntime,
+    log: L,
+    shape: Shape,
+    seed: u64,
+    steps: u64,
+) -> io::Result<()> {
+    let mut drill = Drill::new(log, Model::new(rt.alloc(), shape), Random::new(seed));
+    drill.run(steps)?;
+    println!(rt; "{shape}, seed {seed}: {}", drill.tally)
 }
 
 fn run_tape(rt: &HostRuntime, seed: u64, room: u32) -> io::Result<()> {
     let log = Tape::new(rt.alloc(), seed, room)?;
-    let mut drill = Drill::new(
-        log,
-        model_of(rt.alloc(), Shape::Tape(room as u64, 0)),
-        Random::new(seed),
-    );
-    drill.run(rt.alloc(), 4000)?;
-    let tally = drill.tally;
-    println!(rt; "tape {room}, seed {seed}: {tally}")
+    let shape = Shape::Tape {
+        room: u64::from(room),
+        used: 0,
+    };
+    run(rt, log, shape, seed, 4000)
 }
 
 fn run_segmented(rt: &HostRuntime, seed: u64, segments: u16, slots: u16) -> io::Result<()> {
     let log = Segmented::new(rt.alloc(), seed, segments, slots)?;
-    let shape = Shape::Segments(segments as u64, slots as u64, 0, 0);
-    let mut drill = Drill::new(log, model_of(rt.alloc(), shape), Random::new(seed));
-    drill.run(rt.alloc(), 50000)?;
-    let tally = drill.tally;
-    println!(rt; "segments {segments}, slots {slots}, seed {seed}: {tally}")
+    let shape = Shape::Segments(Segments {
+        count: u64::from(segments),
+        slots: i64::from(slots),
+        active: 0,
+        fill: 0,
+    });
+    run(rt, log, shape, seed, 50000)
 }
 
 fn run_all(rt: &HostRuntime) -> io::Result<()> {
@@ -61,29 +63,27 @@ fn run_all(rt: &HostRuntime) -> io::Result<()> {
 // So many messages of 100 bytes fill 256 segments.
 const MESSAGES: u64 = 7936;
 
-// The best of twenty laps with so many messages live.
-fn time(rt: &HostRuntime, name: &str, segments: bool, count: u64) -> io::Result<()> {
-    let mut fastest = Lap {
+// The best of twenty laps with so many messages live, each on a log of its own.
+fn time<L: Log + Drop, F: Fn() -> io::Result<L>>(
+    rt: &HostRuntime,
+    name: &str,
+    count: u64,
+    make: F,
+) -> io::Result<()>
+    requires { F.IsAlwaysCallable make }
+{
+    let mut fastest = run_lap(rt, &mut make()?, count)?;
+    for _ in 1..20 {
+        let lap = run_lap(rt, &mut make()?, count)?;
+        fastest = fastest.and_then(|best| lap.map(|lap| best.best(lap)));
+    }
+    let all = fastest.is_ok();
+    let Lap { write, read } = fastest.unwrap_or(Lap {
         write: u64::MAX,
         read: u64::MAX,
-    };
-    let mut all = true;
-    for _ in 0..20 {
-        let (done, taken) = if segments {
-            run_lap(rt, &mut Segmented::new(rt.alloc(), 1, 256, 0)?, count)?
-        } else {
-            run_lap(
-                rt,
-                &mut Tape::new(rt.alloc(), 1, 132 * MESSAGES as u32)?,
-                count,
-            )?
-        };
-        all = all && done;
-        fastest = best(fastest, taken);
-    }
+    });
     println!(rt;
-        "{name}, {count} of {MESSAGES} messages: reserve and complete {} ns, read {} ns, all done {all}",
-        fastest.write, fastest.read
+        "{name}, {count} of {MESSAGES} messages: reserve and complete {write} ns, read {read} ns, all done {all}"
     )
 }
 
@@ -91,8 +91,10 @@ fn main(rt: HostRuntime) -> io::Result<()> {
     if env::args(&rt)?.count() < 2 {
         return run_all(&rt);
     }
-    time(&rt, "tape", false, MESSAGES / 10)?;
-    time(&rt, "tape", false, MESSAGES / 10 * 9)?;
-    time(&rt, "segments", true, MESSAGES / 10)?;
-    time(&rt, "segments", true, MESSAGES / 10 * 9)
+    let tape = || Ok(Tape::new(rt.alloc(), 1, 132 * MESSAGES as u32)?);
+    let segments = || Ok(Segmented::new(rt.alloc(), 1, 256, 0)?);
+    time(&rt, "tape", MESSAGES / 10, &tape)?;
+    time(&rt, "tape", MESSAGES / 10 * 9, &tape)?;
+    time(&rt, "segments", MESSAGES / 10, &segments)?;
+    time(&rt, "segments", MESSAGES / 10 * 9, &segments)
 }

@@ -1,7 +1,8 @@
 // A plain model of a log: a list of messages, each of which knows how its bytes were made.
-use fault::{DiskPtr, PageId};
+use fault::{BlobPointer, DiskPtr, LogOffset, PageId};
 use logs::{CacheInfo, Kind, Position, Status};
 use std::alloc::{AllocError, Global};
+use std::fmt;
 
 #[derive(Clone, Copy)]
 pub struct Plain {
@@ -18,9 +19,17 @@ pub struct Plain {
 #[derive(Clone, Copy)]
 pub enum Shape {
     // So many bytes, of which so many are used.
-    Tape(u64, u64),
-    // So many segments and blob slots, the active segment, and how far it is filled.
-    Segments(u64, u64, u64, u64),
+    Tape { room: u64, used: u64 },
+    Segments(Segments),
+}
+
+// So many segments and blob slots, the active segment, and how far it is filled.
+#[derive(Clone, Copy)]
+pub struct Segments {
+    pub count: u64,
+    pub slots: BlobPointer,
+    pub active: u64,
+    pub fill: u64,
 }
 
 #[derive(Drop)]
@@ -28,161 +37,171 @@ pub struct Model {
     pub plains: Vec<Plain>,
     pub next: Position,
     pub stable: Position,
-    pub shape: Shape,
+    shape: Shape,
 }
 
-fn is_busy(plain: &Plain) -> bool {
-    plain.status == Status::Live || plain.status == Status::Pending
+// Where a segment begins.
+fn offset_of(segment: u64) -> LogOffset {
+    segment.saturating_mul(4096)
 }
 
-fn segment_of(plain: &Plain) -> u64 {
-    plain.pointer.lid() / 4096
-}
+impl Plain {
+    fn is_live(&self) -> bool {
+        self.status == Status::Live
+    }
 
-fn points_to(plain: &Plain, slot: u64) -> bool {
-    match plain.pointer {
-        DiskPtr::Inline(_) => false,
-        DiskPtr::Blob(_, i) => u64::try_from(i).ok() == Some(slot),
+    fn is_busy(&self) -> bool {
+        self.is_live() || self.status == Status::Pending
+    }
+
+    fn lies_in(&self, segment: u64) -> bool {
+        self.pointer.lid() / 4096 == segment
+    }
+
+    fn points_to(&self, slot: BlobPointer) -> bool {
+        matches!(self.pointer, DiskPtr::Blob(_, i) if i == slot)
+    }
+
+    // Whether it is live, and named so.
+    fn answers_to(&self, lsn: Position, pointer: DiskPtr) -> bool {
+        self.is_live() && self.lsn == lsn && self.pointer == pointer
     }
 }
 
-// Whether a live or pending message lies in the segment.
-fn segment_busy(plains: &[Plain], segment: u64) -> bool {
-    for plain in plains {
-        if is_busy(plain) && segment_of(plain) == segment {
-            return true;
-        }
+// Which messages lie where.
+impl Model {
+    // Whether a live or pending message lies in the segment.
+    fn is_segment_busy(&self, segment: u64) -> bool {
+        self.plains
+            .iter()
+            .any(|plain| plain.is_busy() && plain.lies_in(segment))
     }
-    false
+
+    fn is_slot_busy(&self, slot: BlobPointer) -> bool {
+        self.plains
+            .iter()
+            .any(|plain| plain.is_busy() && plain.points_to(slot))
+    }
+
+    fn live_in(&self, segment: u64) -> usize {
+        self.plains
+            .iter()
+            .filter(|plain| plain.is_live() && plain.lies_in(segment))
+            .count()
+    }
+
+    fn lowest_page(&self, segment: u64) -> Option<PageId> {
+        self.plains
+            .iter()
+            .filter(|plain| plain.is_live() && plain.lies_in(segment))
+            .map(|plain| plain.page)
+            .min()
+    }
+
+    // The closed segment with the fewest live messages, 1 to 3.
+    fn sparsest(&self, segments: Segments) -> Option<u64> {
+        (0..segments.count)
+            .filter(|segment| *segment != segments.active)
+            .map(|segment| (self.live_in(segment), segment))
+            .filter(|(live, _)| (1..4).contains(live))
+            .min()
+            .map(|(_, segment)| segment)
+    }
 }
 
-fn slot_busy(plains: &[Plain], slot: u64) -> bool {
-    for plain in plains {
-        if is_busy(plain) && points_to(plain, slot) {
-            return true;
-        }
+// Where the next message goes.
+impl Model {
+    fn free_segment(&self, segments: Segments) -> Option<u64> {
+        (0..segments.count).find(|segment| *segment != segments.active
+            && !self.is_segment_busy(*segment))
     }
-    false
-}
 
-fn free_segment(plains: &[Plain], segments: u64, active: u64) -> Option<u64> {
-    for segment in 0..segments {
-        if segment != active && !segment_busy(plains, segment) {
-            return Some(segment);
-        }
+    fn free_slot(&self, slots: BlobPointer) -> Option<BlobPointer> {
+        (0..slots).find(|slot| !self.is_slot_busy(*slot))
     }
-    None
-}
 
-fn free_slot(plains: &[Plain], slots: u64) -> Option<u64> {
-    for slot in 0..slots {
-        if !slot_busy(plains, slot) {
-            return Some(slot);
-        }
-    }
-    None
-}
-
-// Where so many bytes go, and the shape after that.
-pub fn inline_place(plains: &[Plain], shape: Shape, bytes: u64) -> Option<(u64, Shape)> {
-    match shape {
-        Shape::Tape(room, used) => {
-            let after = used.saturating_add(bytes);
-            if after > room {
-                return None;
+    // Where so many bytes go, and the shape after that.
+    pub fn inline_place(&self, bytes: u64) -> Option<(LogOffset, Shape)> {
+        match self.shape {
+            Shape::Tape { room, used } => {
+                let after = used.saturating_add(bytes);
+                (after <= room).then_some((used, Shape::Tape { room, used: after }))
             }
-            Some((used, Shape::Tape(room, after)))
-        }
-        Shape::Segments(segments, slots, active, fill) => {
-            let after = fill.saturating_add(bytes);
-            if after <= 4096 {
-                let at = active.saturating_mul(4096).saturating_add(fill);
-                return Some((at, Shape::Segments(segments, slots, active, after)));
-            }
-            let segment = free_segment(plains, segments, active)?;
-            Some((
-                segment.saturating_mul(4096),
-                Shape::Segments(segments, slots, segment, bytes),
-            ))
-        }
-    }
-}
-
-// Where a payload goes, and the shape after that.
-pub fn place(plains: &[Plain], shape: Shape, len: u64) -> Option<(DiskPtr, Shape)> {
-    if len > 1152 {
-        return None;
-    }
-    match shape {
-        Shape::Segments(_, slots, _, _) => {
-            if len > 512 {
-                let slot = free_slot(plains, slots)?;
-                let (lid, after) = inline_place(plains, shape, 32)?;
-                return Some((DiskPtr::Blob(lid, i64::try_from(slot).ok()?), after));
+            Shape::Segments(segments) => {
+                let (at, after) = self.place_in(segments, bytes)?;
+                Some((at, Shape::Segments(after)))
             }
         }
-        Shape::Tape(_, _) => {}
     }
-    let (lid, after) = inline_place(plains, shape, len.saturating_add(32))?;
-    Some((DiskPtr::Inline(lid), after))
-}
 
-fn live_in(plains: &[Plain], segment: u64) -> u64 {
-    let mut count: u64 = 0;
-    for plain in plains {
-        if plain.status == Status::Live && segment_of(plain) == segment {
-            count = count.saturating_add(1);
+    // Where so many bytes go: to the active segment, or else to the front of a free one.
+    fn place_in(&self, segments: Segments, bytes: u64) -> Option<(LogOffset, Segments)> {
+        let Segments { active, fill, .. } = segments;
+        let after = fill.saturating_add(bytes);
+        if after <= 4096 {
+            let at = offset_of(active).saturating_add(fill);
+            return Some((
+                at,
+                Segments {
+                    fill: after,
+                    ..segments
+                },
+            ));
         }
+        let active = self.free_segment(segments)?;
+        Some((
+            offset_of(active),
+            Segments {
+                active,
+                fill: bytes,
+                ..segments
+            },
+        ))
     }
-    count
-}
 
-fn lowest_page(plains: &[Plain], segment: u64) -> u64 {
-    let mut low = u64::MAX;
-    for plain in plains {
-        if plain.status == Status::Live && segment_of(plain) == segment && plain.page < low {
-            low = plain.page;
+    // Where a payload goes, and the shape after that.
+    pub fn place(&self, len: u64) -> Option<(DiskPtr, Shape)> {
+        if len > 1152 {
+            return None;
         }
-    }
-    low
-}
-
-// The closed segment with the fewest live messages, 1 to 3.
-fn sparsest(plains: &[Plain], segments: u64, active: u64) -> Option<u64> {
-    let mut best = None;
-    let mut fewest = 4;
-    for segment in 0..segments {
-        let count = live_in(plains, segment);
-        if segment != active && count > 0 && count < fewest {
-            fewest = count;
-            best = Some(segment);
+        if let Shape::Segments(segments) = self.shape
+            && len > 512
+        {
+            let slot = self.free_slot(segments.slots)?;
+            let (lid, after) = self.inline_place(32)?;
+            return Some((DiskPtr::Blob(lid, slot), after));
         }
+        let (lid, after) = self.inline_place(len.saturating_add(32))?;
+        Some((DiskPtr::Inline(lid), after))
     }
-    best
 }
 
 impl Model {
-    pub fn proposal(&self) -> Option<(u64, u64)> {
+    pub fn new(heap: Global, shape: Shape) -> Model {
+        Model {
+            plains: Vec::new(heap),
+            next: 1,
+            stable: 0,
+            shape,
+        }
+    }
+
+    pub fn proposal(&self) -> Option<(PageId, LogOffset)> {
         match self.shape {
-            Shape::Tape(_, _) => None,
-            Shape::Segments(segments, _, active, _) => {
-                let segment = sparsest(self.plains.as_slice(), segments, active)?;
-                Some((
-                    lowest_page(self.plains.as_slice(), segment),
-                    segment.saturating_mul(4096),
-                ))
+            Shape::Tape { .. } => None,
+            Shape::Segments(segments) => {
+                let segment = self.sparsest(segments)?;
+                Some((self.lowest_page(segment)?, offset_of(segment)))
             }
         }
     }
 
     // The live message there.
     pub fn live_at(&self, lsn: Position, pointer: DiskPtr) -> Option<Plain> {
-        for plain in self.plains.as_slice() {
-            if plain.status == Status::Live && plain.lsn == lsn && plain.pointer == pointer {
-                return Some(*plain);
-            }
-        }
-        None
+        self.plains
+            .iter()
+            .copied()
+            .find(|plain| plain.answers_to(lsn, pointer))
     }
 
     // One more message.
@@ -195,29 +214,28 @@ impl Model {
 
     // The live message of the page that the entry names is dead.
     pub fn mark(&mut self, page: PageId, entry: CacheInfo) {
-        for plain in self.plains.as_mut_slice() {
-            if plain.status == Status::Live
-                && plain.page == page
-                && plain.lsn == entry.lsn
-                && plain.pointer == entry.pointer
-            {
+        for plain in self.plains.iter_mut() {
+            if plain.page == page && plain.answers_to(entry.lsn, entry.pointer) {
                 plain.status = Status::Dead;
             }
         }
     }
 
     // Forgets messages that are neither live nor pending once there are many.
-    pub fn prune(&mut self, heap: Global) -> Result<(), AllocError> {
-        if self.plains.len() < 600 {
-            return Ok(());
+    pub fn prune(&mut self) {
+        if self.plains.len() >= 600 {
+            self.plains.retain(|plain| plain.is_busy());
         }
-        let mut kept = Vec::new(heap);
-        for plain in self.plains.as_slice() {
-            if is_busy(plain) {
-                kept.push(*plain)?;
+    }
+}
+
+impl fmt::Display for Shape {
+    fn fmt<W: fmt::Write>(&self, f: &mut fmt::Formatter<W>) -> fmt::Result {
+        match self {
+            Shape::Tape { room, .. } => write!(f, "tape {room}"),
+            Shape::Segments(Segments { count, slots, .. }) => {
+                write!(f, "segments {count}, slots {slots}")
             }
         }
-        self.plains = kept;
-        Ok(())
     }
 }

@@ -1,4 +1,6 @@
 // A seeded generator, so that every run takes the same steps.
+ghost use Rattle.std.specs.Prelude.{◌<◌, IfSome};
+
 #[derive(Drop)]
 pub struct Random {
     state: u64,
@@ -15,5 +17,15 @@ impl Random {
             .wrapping_mul(6364136223846793005)
             .wrapping_add(1442695040888963407);
         self.state >> 33
+    }
+
+    // An index of a list that has so many items, unless it is empty.
+    pub fn index(&mut self, len: usize) -> Option<usize>
+        ensures { IfSome result (λ i. i < len) }
+    {
+        if len == 0 {
+            return None;
+        }
+        Some((self.draw() % len as u64) as usize)
     }
 }

@@ -1,7 +1,7 @@
 // What was tried, and how often the log and the model differed.
 use std::fmt;
 
-#[derive(Drop)]
+#[derive(Default, Drop)]
 pub struct Tally {
     pub live: u64,
     pub cancelled: u64,
@@ -18,19 +18,6 @@ pub fn count(n: &mut u64) {
 }
 
 impl Tally {
-    pub fn new() -> Tally {
-        Tally {
-            live: 0,
-            cancelled: 0,
-            full: 0,
-            moved: 0,
-            read: 0,
-            unread: 0,
-            proposed: 0,
-            differ: 0,
-        }
-    }
-
     // Counts a difference, unless there is none.
     pub fn expect(&mut self, same: bool) {
         if !same {
@@ -41,16 +28,19 @@ impl Tally {
 
 impl fmt::Display for Tally {
     fn fmt<W: fmt::Write>(&self, f: &mut fmt::Formatter<W>) -> fmt::Result {
+        let Tally {
+            live,
+            cancelled,
+            full,
+            moved,
+            read,
+            unread,
+            proposed,
+            differ,
+        } = self;
         write!(
             f,
-            "live {} cancelled {} full {} ",
-            self.live, self.cancelled, self.full
-        )?;
-        write!(
-            f,
-            "moved {} read {} unread {} ",
-            self.moved, self.read, self.unread
-        )?;
-        write!(f, "proposed {} differ {}", self.proposed, self.differ)
+            "live {live} cancelled {cancelled} full {full} moved {moved} read {read} unread {unread} proposed {proposed} differ {differ}"
+        )
     }
 }

@@ -3,10 +3,14 @@
 #![tactic(auto)]
 
 use bounded::Table;
-use fault::ValueFault;
+use fault::{BytesFault, ValueFault};
 use node::{Data, Key, LeafRow, Link, Node, NodeParts, Value};
 use serialization::serialize::decode;
 use serialization::{PAYLOAD, Serialize};
+
+fn key_of(row: u8) -> Result<Key, BytesFault> {
+    Key::from_slice(&[b'k', b'e', b'y', 0, 0, 0, 0, row])
+}
 
 // A leaf of sixteen rows with keys of eight bytes and values of twenty.
 fn full_leaf() -> Result<Node, ValueFault> {
@@ -15,74 +19,72 @@ fn full_leaf() -> Result<Node, ValueFault> {
         value: Value::empty(),
     });
     for i in 0..16u8 {
-        let key = Key::from_slice(&[b'k', b'e', b'y', 0, 0, 0, 0, i])?;
+        let key = key_of(i)?;
         let value = Value::from_slice(&[i; 20])?;
         rows.push(LeafRow { key, value });
     }
-    let mut parts = NodeParts::empty_leaf();
-    parts.data = Data::Leaf(rows);
+    let parts = NodeParts {
+        data: Data::Leaf(rows),
+        ..NodeParts::empty_leaf()
+    };
     Ok(Node::new(parts)?)
+}
+
+// What so many runs answer together.
+fn sum_of<F: FnMut(u64) -> Result<usize, ValueFault>>(
+    times: u64,
+    mut run: F,
+) -> Result<u64, ValueFault>
+    requires { F.IsAlwaysCallable run }
+{
+    let mut sum = 0u64;
+    for i in 0..times {
+        sum = sum.wrapping_add(run(i)? as u64);
+    }
+    Ok(sum)
 }
 
 fn encoded(times: u64) -> Result<u64, ValueFault> {
     let node = full_leaf()?;
     let mut buf = [0u8; PAYLOAD];
-    let mut sum = 0u64;
-    for _ in 0..times {
-        let n = node.serialize_into(&mut buf)?;
-        sum = sum.wrapping_add(n as u64);
-    }
-    Ok(sum)
+    sum_of(times, |_| Ok(node.serialize_into(&mut buf)?))
 }
 
 fn decoded(times: u64) -> Result<u64, ValueFault> {
-    let node = full_leaf()?;
     let mut buf = [0u8; PAYLOAD];
-    let n = node.serialize_into(&mut buf)?;
-    let mut sum = 0u64;
-    for _ in 0..times {
-        let all = &buf[..];
-        if n <= all.len() {
-            let read = decode::<Node>(&all[0..n])?;
-            sum = sum.wrapping_add(read.parts().data.len() as u64);
-        }
-    }
-    Ok(sum)
+    let n = full_leaf()?.serialize_into(&mut buf)?;
+    let bytes = &buf[..n];
+    sum_of(times, |_| { Ok(decode::<Node>(bytes)?.parts().data.len()) })
 }
 
 fn applied(times: u64) -> Result<u64, ValueFault> {
     let mut node = full_leaf()?;
-    let mut sum = 0u64;
-    for i in 0..times {
+    sum_of(times, |i| {
         let row = (i % 16) as u8;
-        let key = Key::from_slice(&[b'k', b'e', b'y', 0, 0, 0, 0, row])?;
-        let value = Value::from_slice(&[row; 30])?;
-        node.apply(&Link::Set(key, value))?;
-        sum = sum.wrapping_add(node.parts().data.len() as u64);
-    }
-    Ok(sum)
+        let link = Link::Set(key_of(row)?, Value::from_slice(&[row; 30])?);
+        node.apply(&link)?;
+        Ok(node.parts().data.len())
+    })
 }
 
-fn sum_of(r: Result<u64, ValueFault>) -> u64 {
-    match r {
-        Ok(sum) => sum,
-        Err(fault) => fault.report().number as u64,
-    }
+// The sum, or the refusal's number.
+fn told(sum: Result<u64, ValueFault>) -> u64 {
+    sum.unwrap_or_else(|fault| u64::from(fault.report().number))
 }
 
 #[unsafe(no_mangle)]
 pub extern "C" fn pace_encode(times: u64) -> u64 {
-    sum_of(encoded(times))
+    told(encoded(times))
 }
 
 #[unsafe(no_mangle)]
 pub extern "C" fn pace_decode(times: u64) -> u64 {
-    sum_of(decoded(times))
+    told(decoded(times))
 }
 
 #[unsafe(no_mangle)]
 pub extern "C" fn pace_apply(times: u64) -> u64 {
-    sum_of(applied(times))
+    told(applied(times))
 }
 
 #[unsafe(no_mangle)]

@@ -1,6 +1,8 @@
 -- What the words of a line ask for. Assumes nothing.
 use Rattle.std.specs.Prelude.{ℕ, Bool, true, false, cond, List, map, Some, None, vec_items, codes, Option, Vec, ◌==◌}
 use Rattle.std.specs.declared.alloc.Global.{Global}
+use Rattle.std.specs.NonZero.{non_zero_u64_get}
+use Rattle.std.specs.Option.{option_map}
 use Rattle.node.specs.Links.{Step, set, del, intend, confirm, cap}
 use Rattle.node.specs.Nodes.{Str, Contents, index, leaf}
 use Rattle.node.specs.Nodes as nodes
@@ -46,15 +48,15 @@ abbrev pub rows_asked : Rows → nodes.Rows
 rows_asked (Leaf rows) = leaf (map leaf_asked (vec_items rows))
 rows_asked (Index rows) = index (map index_asked (vec_items rows))
 
--- a page, where 0 is none
+-- the page of a number, where 0 is none
 abbrev pub page_asked : ℕ → Option ℕ
 page_asked page = cond (page == 0) None (Some page)
 
 abbrev pub contents_of : Shape → Contents
 contents_of shape = record {
   prefix_len = shape.prefix_len;
-  next = page_asked shape.next;
-  child = page_asked shape.child;
+  next = option_map non_zero_u64_get shape.next;
+  child = option_map non_zero_u64_get shape.child;
   merging = shape.merging;
   lo = vec_items shape.lo;
   hi = vec_items shape.hi;

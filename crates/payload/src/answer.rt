@@ -48,21 +48,14 @@ impl fmt::Display for Answer {
     fn fmt<W: fmt::Write>(&self, f: &mut fmt::Formatter<W>) -> fmt::Result {
         match self {
             Answer::Linked(payload, node) => {
-                let node = NodeShown(node);
-                write!(f, "link {payload} gives {node}")
+                write!(f, "link {payload} gives {}", NodeShown(node))
             }
             Answer::NotLinked(payload, fault) => write!(f, "link {payload} {fault}"),
             Answer::Node(payload) => write!(f, "node {payload}"),
-            Answer::Split(new, node) => {
-                let node = NodeShown(node);
-                write!(f, "split {new} gives {node}")
-            }
+            Answer::Split(new, node) => write!(f, "split {new} gives {}", NodeShown(node)),
             Answer::Counter(payload) => write!(f, "counter {payload}"),
             Answer::Root(page) => fmt::Display::fmt(&PageShown(*page), f),
-            Answer::Roots(former, payload) => {
-                let former = PageShown(*former);
-                write!(f, "{former} meta {payload}")
-            }
+            Answer::Roots(former, payload) => { write!(f, "{} meta {payload}", PageShown(*former)) }
             Answer::Read(value) => write!(f, "value {value}"),
         }
     }

@@ -1,5 +1,6 @@
 // What a line asks for. Its strings may still be too long, and its node may still break the rules.
 use fault::PageId;
+use std::num::NonZeroU64;
 
 // A change of the held node, as a link.
 #[derive(Drop)]
@@ -25,12 +26,12 @@ pub enum Rows {
     Index(Vec<Row<PageId>>),
 }
 
-// A node in full. A neighbour or a child that is 0 is none.
+// A node in full.
 #[derive(Drop)]
 pub struct Shape {
     pub prefix_len: u8,
-    pub next: PageId,
-    pub child: PageId,
+    pub next: Option<NonZeroU64>,
+    pub child: Option<NonZeroU64>,
     pub merging: bool,
     pub lo: Vec<u8>,
     pub hi: Vec<u8>,

@@ -31,9 +31,9 @@ impl<T: Drop> From<AllocFailed<T>> for LineFault {
 
 impl fmt::Display for LineFault {
     fn fmt<W: fmt::Write>(&self, f: &mut fmt::Formatter<W>) -> fmt::Result {
-        match self {
-            LineFault::Unknown => f.write_str("refused 11: unknown line"),
-            LineFault::Memory => f.write_str("no memory for this line"),
-        }
+        f.write_str(match self {
+            LineFault::Unknown => "refused 11: unknown line",
+            LineFault::Memory => "no memory for this line",
+        })
     }
 }

@@ -32,9 +32,7 @@ fn carry_out(rt: &HostRuntime, session: &mut Session, number: u64, text: &str) -
 
 fn main(rt: HostRuntime) -> io::Result<()> {
     let mut session = Session::new();
-    let mut number: u64 = 0;
-    for line in rt.lines(rt.alloc()) {
-        number = number.saturating_add(1);
+    for (number, line) in (1u64..).zip(rt.lines(rt.alloc())) {
         carry_out(&rt, &mut session, number, line?.as_str())?;
     }
     Ok(())

@@ -15,7 +15,6 @@ use fault::{BytesFault, NodeFault, PageId, ValueFault};
 use node::{Data, IndexRow, Key, LeafRow, Link, Meta, Node, NodeParts, Value};
 use serialization::Free;
 use serialization::serialize::decode;
-use std::num::NonZeroU64;
 
 // The link of a change, if its strings are short enough.
 pub fn link_of(change: &Change) -> Result<Link, ValueFault>
@@ -94,8 +93,8 @@ pub fn node_of(shape: &Shape) -> Result<Node, ValueFault>
     };
     let parts = NodeParts {
         prefix_len: shape.prefix_len,
-        next: NonZeroU64::new(shape.next),
-        merging_child: NonZeroU64::new(shape.child),
+        next: shape.next,
+        merging_child: shape.child,
         merging: shape.merging,
         lo: Key::from_slice(shape.lo.as_slice())?,
         hi: Key::from_slice(shape.hi.as_slice())?,

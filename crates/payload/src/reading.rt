@@ -1,13 +1,17 @@
 // A line and what it asks for.
 ghost use Rattle.std.specs.Prelude.{◌≡◌, ◌^◌, ◌<◌, IfOk};
+ghost use Rattle.std.specs.NonZero.{non_zero_u64_get};
+ghost use Rattle.std.specs.Option.{option_map};
 ghost use Rattle.std.specs.Result.{OkIff};
 ghost use Rattle.std.specs.Str.Parse.{IsNumeral, digits_value};
-ghost use Rattle.payload.specs.Asked.{flag_word, kind_word};
+ghost use Rattle.payload.specs.Asked.{flag_word, kind_word, page_asked};
 
 use crate::command::{Change, Command, Kind, Line, Row, Rows, Shape};
 use crate::line_fault::LineFault;
 use crate::strings::{payload_of, unescaped};
-use std::alloc::Global;
+use std::alloc::{AllocError, Global};
+use std::num::NonZeroU64;
+use std::str::FromStr;
 
 // A number in base ten: digits only, and below 2^64.
 fn number(word: &str) -> Result<u64, LineFault>
@@ -16,20 +20,21 @@ fn number(word: &str) -> Result<u64, LineFault>
     if word.starts_with('+') {
         return Err(LineFault::Unknown);
     }
-    match word.parse::<u64>() {
-        Ok(n) => Ok(n),
-        Err(_) => Err(LineFault::Unknown),
-    }
+    word.parse::<u64>().map_err(|_| LineFault::Unknown)
 }
 
 // A number that is a byte.
 fn small_number(word: &str) -> Result<u8, LineFault>
     ensures { IfOk result (λ n. n ≡ digits_value 10 word.now) }
 {
-    match u8::try_from(number(word)?) {
-        Ok(n) => Ok(n),
-        Err(_) => Err(LineFault::Unknown),
-    }
+    u8::try_from(number(word)?).map_err(|_| LineFault::Unknown)
+}
+
+// A page, where 0 is none.
+fn page(word: &str) -> Result<Option<NonZeroU64>, LineFault>
+    ensures { IfOk result (λ page. option_map non_zero_u64_get page ≡ page_asked (digits_value 10 word.now)) }
+{
+    Ok(NonZeroU64::new(number(word)?))
 }
 
 // Whether a number that is 0 or 1 is 1.
@@ -43,57 +48,51 @@ fn flag(word: &str) -> Result<bool, LineFault>
     }
 }
 
-// What bytes are to be read as.
-fn kind(word: &str) -> Result<Kind, LineFault>
-    ensures { IfOk result (λ k. word.now ≡ kind_word k) }
+impl FromStr for Kind {
+    type Err = LineFault;
+
+    ghost from_str_gives = { λ word r. IfOk r (λ k. word ≡ kind_word k) };
+
+    fn from_str(word: &str) -> Result<Kind, LineFault> {
+        match word {
+            "counter" => Ok(Kind::Counter),
+            "free" => Ok(Kind::Free),
+            "meta" => Ok(Kind::Meta),
+            "link" => Ok(Kind::Link),
+            "node" => Ok(Kind::Node),
+            _ => Err(LineFault::Unknown),
+        }
+    }
+}
+
+// The row of a word, whose key and value an = parts.
+fn row<V, F: Fn(&str) -> Result<V, LineFault>>(
+    heap: Global,
+    word: &str,
+    value_of: F,
+) -> Result<Row<V>, LineFault>
+    requires { F.IsAlwaysCallable value_of }
 {
-    match word {
-        "counter" => Ok(Kind::Counter),
-        "free" => Ok(Kind::Free),
-        "meta" => Ok(Kind::Meta),
-        "link" => Ok(Kind::Link),
-        "node" => Ok(Kind::Node),
-        _ => Err(LineFault::Unknown),
-    }
-}
-
-// The two words of a row, which an = parts.
-fn parted(word: &str) -> Result<(&str, &str), LineFault> {
-    match word.split_once('=') {
-        Some(words) => Ok(words),
-        None => Err(LineFault::Unknown),
-    }
-}
-
-fn leaf_rows(heap: Global, words: &[&str]) -> Result<Rows, LineFault> {
-    let mut rows = Vec::new(heap);
-    for word in words {
-        let (key, value) = parted(word)?;
-        rows.push(Row {
-            key: unescaped(heap, key)?,
-            value: unescaped(heap, value)?,
-        })?;
-    }
-    Ok(Rows::Leaf(rows))
-}
-
-fn index_rows(heap: Global, words: &[&str]) -> Result<Rows, LineFault> {
-    let mut rows = Vec::new(heap);
-    for word in words {
-        let (key, page) = parted(word)?;
-        rows.push(Row {
-            key: unescaped(heap, key)?,
-            value: number(page)?,
-        })?;
-    }
-    Ok(Rows::Index(rows))
+    let (key, value) = word.split_once('=').ok_or(LineFault::Unknown)?;
+    Ok(Row {
+        key: unescaped(heap, key)?,
+        value: value_of(value)?,
+    })
 }
 
 // The rows behind the word that says of which kind they are.
 fn rows(heap: Global, words: &[&str]) -> Result<Rows, LineFault> {
     match words {
-        ["leaf", rows @ ..] => leaf_rows(heap, rows),
-        ["index", rows @ ..] => index_rows(heap, rows),
+        ["leaf", rows @ ..] => rows
+            .iter()
+            .map(|word| row(heap, word, |value| unescaped(heap, value)))
+            .try_collect(heap)
+            .map(Rows::Leaf),
+        ["index", rows @ ..] => rows
+            .iter()
+            .map(|word| row(heap, word, number))
+            .try_collect(heap)
+            .map(Rows::Index),
         _ => Err(LineFault::Unknown),
     }
 }
@@ -102,8 +101,8 @@ fn rows(heap: Global, words: &[&str]) -> Result<Rows, LineFault> {
 fn plain_shape(heap: Global, rows: Rows) -> Shape {
     Shape {
         prefix_len: 0,
-        next: 0,
-        child: 0,
+        next: None,
+        child: None,
         merging: false,
         lo: Vec::new(heap),
         hi: Vec::new(heap),
@@ -118,8 +117,8 @@ fn full_shape(heap: Global, words: &[&str]) -> Result<Shape, LineFault> {
     };
     Ok(Shape {
         prefix_len: small_number(prefix_len)?,
-        next: number(next)?,
-        child: number(child)?,
+        next: page(next)?,
+        child: page(child)?,
         merging: flag(merging)?,
         lo: unescaped(heap, lo)?,
         hi: unescaped(heap, hi)?,
@@ -129,36 +128,32 @@ fn full_shape(heap: Global, words: &[&str]) -> Result<Shape, LineFault> {
 
 // The command of a line's words.
 fn command_of(heap: Global, words: &[&str]) -> Result<Command, LineFault> {
-    match words {
+    let command = match words {
         ["set", key, value] => {
-            let change = Change::Set(unescaped(heap, key)?, unescaped(heap, value)?);
-            Ok(Command::Link(change))
+            Command::Link(Change::Set(unescaped(heap, key)?, unescaped(heap, value)?))
         }
-        ["del", key] => Ok(Command::Link(Change::Del(unescaped(heap, key)?))),
-        ["intend", page] => Ok(Command::Link(Change::Intend(number(page)?))),
-        ["confirm"] => Ok(Command::Link(Change::Confirm)),
-        ["cap"] => Ok(Command::Link(Change::Cap)),
-        ["node", shape @ ..] => Ok(Command::Node(full_shape(heap, shape)?)),
-        ["leaf", ..] | ["index", ..] => Ok(Command::Node(plain_shape(heap, rows(heap, words)?))),
-        ["split", at, page] => Ok(Command::Split(unescaped(heap, at)?, number(page)?)),
-        ["counter", value] => Ok(Command::Counter(number(value)?)),
-        ["root", name] => Ok(Command::Root(unescaped(heap, name)?)),
-        ["setroot", name, page] => Ok(Command::SetRoot(unescaped(heap, name)?, number(page)?)),
-        ["delroot", name] => Ok(Command::DelRoot(unescaped(heap, name)?)),
-        ["read", word, payload @ ..] => Ok(Command::Read(kind(word)?, payload_of(heap, payload)?)),
-        _ => Err(LineFault::Unknown),
-    }
+        ["del", key] => Command::Link(Change::Del(unescaped(heap, key)?)),
+        ["intend", page] => Command::Link(Change::Intend(number(page)?)),
+        ["confirm"] => Command::Link(Change::Confirm),
+        ["cap"] => Command::Link(Change::Cap),
+        ["node", shape @ ..] => Command::Node(full_shape(heap, shape)?),
+        ["leaf", ..] | ["index", ..] => Command::Node(plain_shape(heap, rows(heap, words)?)),
+        ["split", at, page] => Command::Split(unescaped(heap, at)?, number(page)?),
+        ["counter", value] => Command::Counter(number(value)?),
+        ["root", name] => Command::Root(unescaped(heap, name)?),
+        ["setroot", name, page] => Command::SetRoot(unescaped(heap, name)?, number(page)?),
+        ["delroot", name] => Command::DelRoot(unescaped(heap, name)?),
+        ["read", kind, payload @ ..] => Command::Read(kind.parse()?, payload_of(heap, payload)?),
+        _ => return Err(LineFault::Unknown),
+    };
+    Ok(command)
 }
 
 // The words of a line, which spaces part.
-fn words_of(heap: Global, line: &str) -> Result<Vec<&str>, LineFault> {
-    let mut words = Vec::new(heap);
-    for word in line.split(' ') {
-        if !word.is_empty() {
-            words.push(word)?;
-        }
-    }
-    Ok(words)
+fn words_of(heap: Global, line: &str) -> Result<Vec<&str>, AllocError> {
+    line.split(' ')
+        .filter(|word| !word.is_empty())
+        .collect(heap)
 }
 
 pub fn line_of(heap: Global, text: &str) -> Result<Line, LineFault> {

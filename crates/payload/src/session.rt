@@ -59,10 +59,10 @@ impl Session {
     {
         let link = link_of(change)?;
         let payload = Payload::new(&link);
-        match self.node.apply(&link) {
-            Ok(()) => Ok(Answer::Linked(payload, self.node)),
-            Err(fault) => Ok(Answer::NotLinked(payload, fault)),
-        }
+        Ok(match self.node.apply(&link) {
+            Ok(()) => Answer::Linked(payload, self.node),
+            Err(fault) => Answer::NotLinked(payload, fault),
+        })
     }
 
     // Holds another node.

@@ -1,6 +1,6 @@
 // Bytes and strings as the lines write them.
-ghost use Rattle.std.specs.Prelude.{◌≡◌, ◌/◌, ◌%◌, ◌<◌, length, IfSome, Some, None, MatchOption, MatchResult};
-ghost use Rattle.payload.specs.Faults.{Lacks};
+ghost use Rattle.std.specs.Prelude.{◌≡◌, ◌/◌, ◌%◌, ◌<◌, length, IfSome, Some, None, MatchOption};
+ghost use Rattle.payload.specs.Faults.{Finds};
 ghost use Rattle.payload.specs.Spelling.{hex_value, hex_byte, hex_digit, hex_word, hex_words, texts, before, is_plain, spelled, string_of};
 
 use crate::line_fault::LineFault;
@@ -12,12 +12,7 @@ fn hex_value(digit: u8) -> Option<u8>
     ensures value { result ≡ hex_value digit }
     ensures bound { IfSome result (λ v. v < 16) }
 {
-    match digit {
-        b'0'..=b'9' => Some(digit - b'0'),
-        b'A'..=b'F' => Some(digit - b'A' + 10),
-        b'a'..=b'f' => Some(digit - b'a' + 10),
-        _ => None,
-    }
+    (digit as char).to_digit(16).map(|value| value as u8)
 }
 
 // The byte that two digits of base sixteen make.
@@ -42,6 +37,7 @@ fn hex_digit(value: u8) -> u8
 }
 
 // The two digits of a byte, which make it again.
+// Kept: the contract holds what is printed to what is read; no contract says that of {:02X} in a Display.
 fn hex_digits(byte: u8) -> (char, char)
     ensures high { result.0 ≡ hex_digit (byte / 16) }
     ensures low { result.1 ≡ hex_digit (byte % 16) }
@@ -62,14 +58,11 @@ fn hex_word(word: &str) -> Option<u8>
 
 // The bytes of words of two digits each.
 pub fn payload_of(heap: Global, words: &[&str]) -> Result<Vec<u8>, LineFault>
-    ensures { MatchResult result (λ v. hex_words (texts words.now) ≡ Some v.items) (Lacks (hex_words (texts words.now))) }
+    ensures { Finds (hex_words (texts words.now)) result }
 {
     let mut bytes = Vec::new(heap);
     for word in words {
-        let Some(byte) = hex_word(word) else {
-            return Err(LineFault::Unknown);
-        };
-        bytes.push(byte)?;
+        bytes.push(hex_word(word).ok_or(LineFault::Unknown)?)?;
     }
     Ok(bytes)
 }
@@ -86,32 +79,21 @@ fn first_byte(text: &[u8]) -> Option<(u8, &[u8])>
     ensures first { MatchOption result (0 < length text.now → spelled text.now ≡ None) (λ p. spelled text.now ≡ before (Some p.0) (spelled p.1.now)) }
     ensures shorter { IfSome result (λ p. length p.1.now < length text.now) }
 {
-    let [byte, rest @ ..] = text else {
-        return None;
-    };
-    if *byte == b'%' {
-        let [high, low, rest @ ..] = rest else {
-            return None;
-        };
-        return Some((hex_byte(*high, *low)?, rest));
-    }
-    if is_plain(*byte) {
-        Some((*byte, rest))
-    } else {
-        None
+    match text {
+        [b'%', high, low, rest @ ..] => Some((hex_byte(*high, *low)?, rest)),
+        [byte, rest @ ..] if is_plain(*byte) => Some((*byte, rest)),
+        _ => None,
     }
 }
 
 // The bytes that a text stands for.
 fn decoded(heap: Global, text: &[u8]) -> Result<Vec<u8>, LineFault>
-    ensures { MatchResult result (λ v. spelled text.now ≡ Some v.items) (Lacks (spelled text.now)) }
+    ensures { Finds (spelled text.now) result }
 {
     let mut bytes = Vec::new(heap);
     let mut rest = text;
     while !rest.is_empty() {
-        let Some((byte, more)) = first_byte(rest) else {
-            return Err(LineFault::Unknown);
-        };
+        let (byte, more) = first_byte(rest).ok_or(LineFault::Unknown)?;
         bytes.push(byte)?;
         rest = more;
     }
@@ -120,7 +102,7 @@ fn decoded(heap: Global, text: &[u8]) -> Result<Vec<u8>, LineFault>
 
 // The string of a word: % and two digits stand for a byte, a plain byte for itself, and a lone % for the empty string.
 pub fn unescaped(heap: Global, word: &str) -> Result<Vec<u8>, LineFault>
-    ensures { MatchResult result (λ v. string_of word.now ≡ Some v.items) (Lacks (string_of word.now)) }
+    ensures { Finds (string_of word.now) result }
 {
     match word {
         "" => Err(LineFault::Unknown),
@@ -135,15 +117,14 @@ pub struct Hex<'a>(pub &'a [u8]);
 
 impl fmt::Display for Hex<'_> {
     fn fmt<W: fmt::Write>(&self, f: &mut fmt::Formatter<W>) -> fmt::Result {
-        if self.0.is_empty() {
+        let [first, rest @ ..] = self.0 else {
             return f.write_str("-");
-        }
-        for (i, byte) in self.0.iter().enumerate() {
-            if i > 0 {
-                f.write_str(" ")?;
-            }
+        };
+        let (high, low) = hex_digits(*first);
+        write!(f, "{high}{low}")?;
+        for byte in rest {
             let (high, low) = hex_digits(*byte);
-            write!(f, "{high}{low}")?;
+            write!(f, " {high}{low}")?;
         }
         Ok(())
     }

@@ -3,6 +3,7 @@ use book::Head;
 use segmented::Segmented;
 use tape::Tape;
 
+// Kept: one impl for each log, since the list is each log's own method, and no trait of theirs has it.
 pub trait Listed {
     fn list(&self) -> &[Head];
 }

@@ -38,22 +38,20 @@ fn refusal(returned: Returned) -> LogFault {
     fault
 }
 
-// Where the message is that is live now.
-fn finish<L: Log>(log: &mut L, reservation: Reservation) -> Result<CacheInfo, LogFault> {
+// Where the message is that is settled now: a log has completed or aborted its reservation.
+fn settled<F: FnOnce(Reservation) -> Result<(), Returned>>(
+    reservation: Reservation,
+    settle: F,
+) -> Result<CacheInfo, LogFault>
+    requires { F.IsAlwaysCallable settle }
+{
     let entry = entry_of(&reservation);
-    match log.complete(reservation) {
-        Ok(()) => Ok(entry),
-        Err(returned) => Err(refusal(returned)),
-    }
+    settle(reservation).map_err(refusal)?;
+    Ok(entry)
 }
 
-// Where the message was that is cancelled now.
-fn cancel<L: Log>(log: &mut L, reservation: Reservation) -> Result<CacheInfo, LogFault> {
-    let entry = entry_of(&reservation);
-    match log.abort(reservation) {
-        Ok(()) => Ok(entry),
-        Err(returned) => Err(refusal(returned)),
-    }
+fn finish<L: Log>(log: &mut L, reservation: Reservation) -> Result<CacheInfo, LogFault> {
+    settled(reservation, |reservation| log.complete(reservation))
 }
 
 fn put<L: Log>(
@@ -78,7 +76,7 @@ fn wait_and_abort<L: Log>(rt: &HostRuntime, log: &mut L) -> io::Result<()> {
             let entry = entry_of(&reservation);
             let other = put(log, 10, Kind::Link, b"other");
             let early = show_read(rt, log, 9, entry);
-            let gone = cancel(log, reservation);
+            let gone = settled(reservation, |reservation| log.abort(reservation));
             early?;
             show_entry(rt, "put page 10 meanwhile", other)?;
             show_entry(rt, "abort page 9", gone)?;
@@ -98,10 +96,10 @@ fn read_and_mark<L: Log>(rt: &HostRuntime, log: &mut L, entry: CacheInfo) -> io:
     show_read(rt, log, 3, entry)?;
     log.sa_mark_replace(3, &[entry]);
     show_read(rt, log, 3, entry)?;
-    match moved {
-        Ok(at) => show_read(rt, log, 3, at),
-        Err(_) => Ok(()),
+    if let Ok(at) = moved {
+        show_read(rt, log, 3, at)?;
     }
+    Ok(())
 }
 
 // Fills the log, all but the last few messages dead at once.
@@ -109,10 +107,10 @@ fn fill<L: Log>(rt: &HostRuntime, log: &mut L, payload: &[u8]) -> io::Result<()>
     for i in 0..26u64 {
         let entry = put(log, 20 + i, Kind::Node, payload);
         show_entry(rt, "put", entry)?;
-        if let Ok(entry) = entry {
-            if i < 19 {
-                log.sa_mark_replace(20 + i, &[entry]);
-            }
+        if let Ok(entry) = entry
+            && i < 19
+        {
+            log.sa_mark_replace(20 + i, &[entry]);
         }
     }
     show_proposal(rt, log)
@@ -134,8 +132,7 @@ fn play<L: Log + Listed>(rt: &HostRuntime, log: &mut L) -> io::Result<()> {
     let entry = put(log, 4, Kind::Node, &long);
     show_entry(rt, "put page 4", entry)?;
     log.make_durable(5);
-    let stable = log.stable();
-    println!(rt; "  stable {stable}")?;
+    println!(rt; "  stable {}", log.stable())?;
     show_messages(rt, log)
 }
 

@@ -11,11 +11,7 @@ pub fn show_entry(
     entry: Result<CacheInfo, LogFault>,
 ) -> io::Result<()> {
     match entry {
-        Ok(entry) => {
-            let lsn = entry.lsn;
-            let pointer = entry.pointer;
-            println!(rt; "  {what}: lsn {lsn} {pointer:?}")
-        }
+        Ok(CacheInfo { lsn, pointer, .. }) => println!(rt; "  {what}: lsn {lsn} {pointer:?}"),
         Err(fault) => println!(rt; "  {what}: {fault}"),
     }
 }
@@ -30,10 +26,10 @@ pub fn show_read<L: Log>(
     let mut scratch = [0u8; 1152];
     let lsn = entry.lsn;
     match log.read(page, lsn, entry.pointer, &mut scratch) {
-        Ok((kind, n)) => {
-            let first = scratch[0];
-            println!(rt; "  read page {page} lsn {lsn}: {kind:?} of {n} bytes from {first}")
-        }
+        Ok((kind, n)) => println!(rt;
+            "  read page {page} lsn {lsn}: {kind:?} of {n} bytes from {}",
+            scratch[0]
+        ),
         Err(fault) => println!(rt; "  read page {page} lsn {lsn}: {fault}"),
     }
 }
@@ -46,12 +42,15 @@ pub fn show_proposal<L: Log>(rt: &HostRuntime, log: &L) -> io::Result<()> {
 }
 
 fn show_head(rt: &HostRuntime, head: &Head) -> io::Result<()> {
-    let lsn = head.lsn;
-    let pointer = head.pointer;
-    let page = head.page;
-    let kind = head.kind;
-    let len = head.len;
-    let status = head.status;
+    let Head {
+        lsn,
+        pointer,
+        page,
+        kind,
+        len,
+        status,
+        ..
+    } = head;
     println!(rt; "    {lsn} {pointer:?} page {page} {kind:?} {len} {status:?}")
 }
 
