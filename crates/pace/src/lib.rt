@@ -3,7 +3,7 @@
 #![tactic(auto)]
 
 use bounded::Table;
-use fault::{BytesFault, ValueFault};
+use fault::{BytesFault, NodeFault, Refusal, ValueFault};
 use node::{Data, Key, LeafRow, Link, Node, NodeParts, Value};
 use serialization::serialize::decode;
 use serialization::{PAYLOAD, Serialize};
@@ -14,14 +14,12 @@ fn key_of(row: u8) -> Result<Key, BytesFault> {
 
 // A leaf of sixteen rows with keys of eight bytes and values of twenty.
 fn full_leaf() -> Result<Node, ValueFault> {
-    let mut rows = Table::new(LeafRow {
-        key: Key::empty(),
-        value: Value::empty(),
-    });
+    let mut rows = Table::new(LeafRow::default());
     for i in 0..16u8 {
         let key = key_of(i)?;
         let value = Value::from_slice(&[i; 20])?;
-        rows.push(LeafRow { key, value });
+        rows.push(LeafRow { key, value })
+            .map_err(|_| NodeFault::Full)?;
     }
     let parts = NodeParts {
         data: Data::Leaf(rows),
@@ -69,7 +67,7 @@ fn applied(times: u64) -> Result<u64, ValueFault> {
 
 // The sum, or the refusal's number.
 fn told(sum: Result<u64, ValueFault>) -> u64 {
-    sum.unwrap_or_else(|fault| u64::from(fault.report().number))
+    sum.unwrap_or_else(|fault| u64::from(fault.number()))
 }
 
 #[unsafe(no_mangle)]

@@ -38,11 +38,15 @@ step_of Cap = cap
 
 -- ---- the node that a shape is
 
+-- a row, by what its value asks for
+abbrev pub row_asked : {V M : Type 0} → (V → M) → Row V → nodes.Row M
+row_asked asked row = (vec_items row.key, asked row.value)
+
 abbrev pub leaf_asked : Row (Vec ℕ Global) → nodes.Row Str
-leaf_asked row = (vec_items row.key, vec_items row.value)
+leaf_asked = row_asked vec_items
 
 abbrev pub index_asked : Row ℕ → nodes.Row ℕ
-index_asked row = (vec_items row.key, row.value)
+index_asked = row_asked (λ p. p)
 
 abbrev pub rows_asked : Rows → nodes.Rows
 rows_asked (Leaf rows) = leaf (map leaf_asked (vec_items rows))

@@ -1,18 +1,21 @@
 // The values that a command's words make.
-ghost use Rattle.std.specs.Prelude.{◌≡◌, map, IfOk, MatchResult};
+ghost use Rattle.std.specs.Prelude.{◌≡◌, ℕ, map, IfOk, MatchResult, vec_items};
+ghost use Rattle.bounded.specs.Bytes.{bytes_of};
+ghost use Rattle.bounded.specs.Rows.{rows_of};
 ghost use Rattle.fault.specs.declared.bytes_fault.BytesFault.TheVariants.{TooLong};
 ghost use Rattle.fault.specs.declared.value_fault.ValueFault.TheVariants.{Bytes};
-ghost use Rattle.node.specs.Meanings.{link_of, leaf_row, index_row, data_of};
-ghost use Rattle.node.specs.Nodes.{index, leaf};
+ghost use Rattle.node.specs.Meanings.{link_of, row_of};
+ghost use Rattle.node.specs.Nodes.{Str};
 ghost use Rattle.node.specs.Outcomes.{node_of};
-ghost use Rattle.payload.specs.Asked.{step_of, leaf_asked, index_asked, contents_of};
+ghost use Rattle.payload.specs.Asked.{step_of, row_asked, contents_of};
 ghost use Rattle.payload.specs.Telling.{bytes_read, kind_read};
 
 use crate::answer::Read;
 use crate::command::{Change, Kind, Row, Rows, Shape};
 use bounded::Table;
 use fault::{BytesFault, NodeFault, PageId, ValueFault};
-use node::{Data, IndexRow, Key, LeafRow, Link, Meta, Node, NodeParts, Value};
+use node::rows::ROWS;
+use node::{Data, Key, Link, Meta, Node, NodeParts, Value};
 use serialization::Free;
 use serialization::serialize::decode;
 
@@ -33,54 +36,65 @@ pub fn link_of(change: &Change) -> Result<Link, ValueFault>
     }
 }
 
-fn leaf_row(key: &[u8], value: &[u8]) -> Result<LeafRow, BytesFault>
-    ensures { MatchResult result (λ row. leaf_row row ≡ (key.now, value.now)) (λ e. e ≡ TooLong) }
+// A value or a page that a row was asked to have, and what is made of it.
+trait Asked {
+    type Made: Copy + Default;
+
+    ghost Meaning: { Type 0 };
+
+    ghost asked: { Self → Meaning };
+
+    ghost made: { Self.Made → Meaning };
+
+    fn make(&self) -> Result<Self::Made, BytesFault>
+        ensures { MatchResult result (λ v. made v ≡ asked self.now) (λ e. e ≡ TooLong) };
+}
+
+impl Asked for Vec<u8> {
+    type Made = Value;
+
+    ghost Meaning = { Str };
+
+    ghost asked = { vec_items };
+
+    ghost made = { bytes_of };
+
+    fn make(&self) -> Result<Value, BytesFault> {
+        Value::from_slice(self.as_slice())
+    }
+}
+
+impl Asked for PageId {
+    type Made = PageId;
+
+    ghost Meaning = { ℕ };
+
+    ghost asked = { λ p. p };
+
+    ghost made = { λ p. p };
+
+    fn make(&self) -> Result<PageId, BytesFault> {
+        Ok(*self)
+    }
+}
+
+fn row_of<A: Asked>(row: &Row<A>) -> Result<node::Row<A::Made>, BytesFault>
+    ensures { MatchResult result (λ r. row_of A.made r ≡ row_asked A.asked row.now) (λ e. e ≡ TooLong) }
 {
-    Ok(LeafRow {
-        key: Key::from_slice(key)?,
-        value: Value::from_slice(value)?,
+    Ok(node::Row {
+        key: Key::from_slice(row.key.as_slice())?,
+        value: row.value.make()?,
     })
 }
 
-fn index_row(key: &[u8], pointer: PageId) -> Result<IndexRow, BytesFault>
-    ensures { MatchResult result (λ row. index_row row ≡ (key.now, pointer)) (λ e. e ≡ TooLong) }
+fn table_of<A: Asked>(rows: &[Row<A>]) -> Result<Table<node::Row<A::Made>, ROWS>, ValueFault>
+    ensures { IfOk result (λ t. map (row_of A.made) (rows_of t) ≡ map (row_asked A.asked) rows.now) }
 {
-    Ok(IndexRow {
-        key: Key::from_slice(key)?,
-        pointer,
-    })
-}
-
-fn leaf_of(rows: &[Row<Vec<u8>>]) -> Result<Data, ValueFault>
-    ensures { IfOk result (λ d. data_of d ≡ leaf (map leaf_asked rows.now)) }
-{
-    let mut table = Table::new(LeafRow {
-        key: Key::empty(),
-        value: Value::empty(),
-    });
+    let mut table = Table::new(node::Row::default());
     for row in rows {
-        let row = leaf_row(row.key.as_slice(), row.value.as_slice())?;
-        if !table.push(row) {
-            return Err(NodeFault::Full.into());
-        }
+        table.push(row_of(row)?).map_err(|_| NodeFault::Full)?;
     }
-    Ok(Data::Leaf(table))
-}
-
-fn index_of(rows: &[Row<PageId>]) -> Result<Data, ValueFault>
-    ensures { IfOk result (λ d. data_of d ≡ index (map index_asked rows.now)) }
-{
-    let mut table = Table::new(IndexRow {
-        key: Key::empty(),
-        pointer: 0,
-    });
-    for row in rows {
-        let row = index_row(row.key.as_slice(), row.value)?;
-        if !table.push(row) {
-            return Err(NodeFault::Full.into());
-        }
-    }
-    Ok(Data::Index(table))
+    Ok(table)
 }
 
 // The node of a shape, if it keeps the rules.
@@ -88,8 +102,8 @@ pub fn node_of(shape: &Shape) -> Result<Node, ValueFault>
     ensures { IfOk result (λ node. node_of node ≡ contents_of shape.now) }
 {
     let data = match &shape.rows {
-        Rows::Leaf(rows) => leaf_of(rows.as_slice())?,
-        Rows::Index(rows) => index_of(rows.as_slice())?,
+        Rows::Leaf(rows) => Data::Leaf(table_of(rows.as_slice())?),
+        Rows::Index(rows) => Data::Index(table_of(rows.as_slice())?),
     };
     let parts = NodeParts {
         prefix_len: shape.prefix_len,

@@ -6,6 +6,7 @@ use std::fmt;
 use std::fmt::Display;
 
 // The bytes of a value, which lie in place.
+// Kept: making one asks for no memory, so that it cannot fail as a Vec would.
 #[derive(Clone, Copy)]
 pub struct Payload {
     bytes: [u8; PAYLOAD],
@@ -19,17 +20,16 @@ impl Payload {
         ensures { take result.len result.bytes ≡ S.bytes (S.value value.now) }
     {
         let mut bytes = [0; PAYLOAD];
-        match value.serialize_into(&mut bytes) {
-            Ok(len) => Payload { bytes, len },
-            Err(_) => unreachable(),
-        }
+        let Ok(len) = value.serialize_into(&mut bytes) else {
+            unreachable!()
+        };
+        Payload { bytes, len }
     }
 
     pub fn as_slice(&self) -> &[u8]
         ensures { result.now ≡ take self.now.len self.now.bytes }
     {
-        let all = &self.bytes[..];
-        &all[0..self.len]
+        &self.bytes[..self.len]
     }
 }
 

@@ -1,7 +1,7 @@
 // Nodes, links and roots in words, as the lines write them.
 use crate::strings::Escaped;
 use fault::PageId;
-use node::{Data, IndexRow, LeafRow, Link, Meta, Node, NodeParts};
+use node::{Data, Link, Meta, Node, NodeParts, Row, Value};
 use std::fmt;
 
 // A page, or none.
@@ -49,31 +49,33 @@ impl fmt::Display for LinkShown<'_> {
 impl fmt::Display for MetaShown<'_> {
     fn fmt<W: fmt::Write>(&self, f: &mut fmt::Formatter<W>) -> fmt::Result {
         f.write_str("roots")?;
-        for root in self.0.roots() {
-            let name = Escaped(root.name.as_slice());
-            let page = root.page;
-            write!(f, " {name}={page}")?;
-        }
-        Ok(())
+        show_rows(self.0.roots(), f)
     }
 }
 
-fn show_leaf<W: fmt::Write>(rows: &[LeafRow], f: &mut fmt::Formatter<W>) -> fmt::Result {
-    f.write_str(" rows")?;
-    for row in rows {
-        let key = Escaped(row.key.as_slice());
-        let value = Escaped(row.value.as_slice());
-        write!(f, " {key}={value}")?;
-    }
-    Ok(())
+// What a key leads to, as it is written.
+trait Shown {
+    fn show<W: fmt::Write>(&self, f: &mut fmt::Formatter<W>) -> fmt::Result;
 }
 
-fn show_index<W: fmt::Write>(rows: &[IndexRow], f: &mut fmt::Formatter<W>) -> fmt::Result {
-    f.write_str(" rows")?;
+impl Shown for Value {
+    fn show<W: fmt::Write>(&self, f: &mut fmt::Formatter<W>) -> fmt::Result {
+        let value = Escaped(self.as_slice());
+        write!(f, "{value}")
+    }
+}
+
+impl Shown for PageId {
+    fn show<W: fmt::Write>(&self, f: &mut fmt::Formatter<W>) -> fmt::Result {
+        write!(f, "{self}")
+    }
+}
+
+fn show_rows<V: Shown, W: fmt::Write>(rows: &[Row<V>], f: &mut fmt::Formatter<W>) -> fmt::Result {
     for row in rows {
         let key = Escaped(row.key.as_slice());
-        let page = row.pointer;
-        write!(f, " {key}={page}")?;
+        write!(f, " {key}=")?;
+        row.value.show(f)?;
     }
     Ok(())
 }
@@ -106,10 +108,10 @@ fn show_bounds<W: fmt::Write>(parts: &NodeParts, f: &mut fmt::Formatter<W>) -> f
 }
 
 fn show_head<W: fmt::Write>(parts: &NodeParts, f: &mut fmt::Formatter<W>) -> fmt::Result {
-    match parts.data {
-        Data::Leaf(_) => f.write_str("leaf")?,
-        Data::Index(_) => f.write_str("index")?,
-    }
+    f.write_str(match &parts.data {
+        Data::Leaf(_) => "leaf",
+        Data::Index(_) => "index",
+    })?;
     let prefix_len = parts.prefix_len;
     if prefix_len > 0 {
         write!(f, " prefix {prefix_len}")?;
@@ -122,9 +124,10 @@ impl fmt::Display for NodeShown<'_> {
     fn fmt<W: fmt::Write>(&self, f: &mut fmt::Formatter<W>) -> fmt::Result {
         let parts = self.0.parts();
         show_head(parts, f)?;
+        f.write_str(" rows")?;
         match &parts.data {
-            Data::Leaf(rows) => show_leaf(rows.as_slice(), f),
-            Data::Index(rows) => show_index(rows.as_slice(), f),
+            Data::Leaf(rows) => show_rows(rows.as_slice(), f),
+            Data::Index(rows) => show_rows(rows.as_slice(), f),
         }
     }
 }
