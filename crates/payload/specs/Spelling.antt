@@ -1,5 +1,6 @@
 -- Bytes and strings as the lines write them. Assumes nothing.
-use Rattle.std.specs.Prelude.{ℕ, ◌+◌, ◌-◌, ◌*◌, Bool, true, false, cond, List, [], ◌∷◌, map, Some, None, Option, ◌==◌, nat_lt}
+use Rattle.std.specs.Prelude.{ℕ, ◌+◌, ◌-◌, ◌*◌, ◌/◌, ◌%◌, ◌≡◌, ◌<◌, Bool, true, false, cond, List, [], ◌∷◌, map, Some, None, Option, ◌==◌, nat_lt}
+use Rattle.std.proofs.Common.{rules}
 use Rattle.std.specs.Borrow.{Bor}
 use Rattle.std.specs.Option.{option_map}
 use Rattle.std.specs.Int.{is_in_range}
@@ -24,12 +25,20 @@ hex_byte high low = paired (hex_value high) (hex_value low)
 abbrev pub hex_digit : ℕ → ℕ
 hex_digit v = cond (nat_lt v 10) (48 + v) (55 + v)
 
+-- the two digits of a byte
+abbrev pub hex_digits : ℕ → List ℕ
+hex_digits b = hex_digit (b / 16) ∷ hex_digit (b % 16) ∷ []
+
 -- the byte of a word of two digits
 abbrev pub hex_word : List ℕ → Option ℕ
 hex_word [] = None
 hex_word (high ∷ []) = None
 hex_word (high ∷ low ∷ []) = hex_byte high low
 hex_word (high ∷ low ∷ more ∷ rest) = None
+
+-- the two digits of a byte make it again
+pub digits_again : (b : ℕ) → b < 256 → hex_word (hex_digits b) ≡ Some b
+digits_again b h = search rules
 
 -- a byte before bytes, where there are both
 abbrev pub before : Option ℕ → Option (List ℕ) → Option (List ℕ)

@@ -1,7 +1,7 @@
 // Bytes and strings as the lines write them.
-ghost use Rattle.std.specs.Prelude.{◌≡◌, ◌/◌, ◌%◌, ◌<◌, length, IfSome, Some, None, MatchOption};
+ghost use Rattle.std.specs.Prelude.{◌≡◌, ◌<◌, length, IfSome, Some, None, MatchOption};
 ghost use Rattle.payload.specs.Faults.{Finds};
-ghost use Rattle.payload.specs.Spelling.{hex_value, hex_byte, hex_digit, hex_word, hex_words, texts, before, is_plain, spelled, string_of};
+ghost use Rattle.payload.specs.Spelling.{hex_value, hex_byte, hex_digits, hex_word, hex_words, texts, before, is_plain, spelled, string_of};
 
 use crate::line_fault::LineFault;
 use std::alloc::Global;
@@ -22,28 +22,6 @@ fn hex_byte(high: u8, low: u8) -> Option<u8>
     let high = hex_value(high)?;
     let low = hex_value(low)?;
     Some(16 * high + low)
-}
-
-// The digit of a value below sixteen.
-fn hex_digit(value: u8) -> u8
-    requires { value < 16 }
-    ensures { result ≡ hex_digit value }
-{
-    if value < 10 {
-        b'0' + value
-    } else {
-        b'A' + (value - 10)
-    }
-}
-
-// The two digits of a byte, which make it again.
-// Kept: the contract holds what is printed to what is read; no contract says that of {:02X} in a Display.
-fn hex_digits(byte: u8) -> (char, char)
-    ensures high { result.0 ≡ hex_digit (byte / 16) }
-    ensures low { result.1 ≡ hex_digit (byte % 16) }
-    ensures again { hex_byte result.0 result.1 ≡ Some byte }
-{
-    (hex_digit(byte / 16) as char, hex_digit(byte % 16) as char)
 }
 
 // The byte of a word of two digits.
@@ -111,6 +89,19 @@ pub fn unescaped(heap: Global, word: &str) -> Result<Vec<u8>, LineFault>
     }
 }
 
+// The two digits of a byte, which make it again.
+#[derive(Clone, Copy)]
+struct Digits(u8);
+
+impl fmt::Display for Digits {
+    ghost output = { λ digits. Some (hex_digits digits.0) };
+
+    fn fmt<W: fmt::Write>(&self, f: &mut fmt::Formatter<W>) -> fmt::Result {
+        let Digits(byte) = *self;
+        write!(f, "{byte:02X}")
+    }
+}
+
 // Bytes, two digits each; a dash where there are none.
 #[derive(Clone, Copy)]
 pub struct Hex<'a>(pub &'a [u8]);
@@ -120,11 +111,9 @@ impl fmt::Display for Hex<'_> {
         let [first, rest @ ..] = self.0 else {
             return f.write_str("-");
         };
-        let (high, low) = hex_digits(*first);
-        write!(f, "{high}{low}")?;
+        write!(f, "{}", Digits(*first))?;
         for byte in rest {
-            let (high, low) = hex_digits(*byte);
-            write!(f, " {high}{low}")?;
+            write!(f, " {}", Digits(*byte))?;
         }
         Ok(())
     }
@@ -143,8 +132,7 @@ impl fmt::Display for Escaped<'_> {
             if is_plain(*byte) {
                 f.write_char(*byte as char)?;
             } else {
-                let (high, low) = hex_digits(*byte);
-                write!(f, "%{high}{low}")?;
+                write!(f, "%{}", Digits(*byte))?;
             }
         }
         Ok(())

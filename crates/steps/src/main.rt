@@ -26,10 +26,7 @@ fn give_up(reservation: Reservation) {
     let log = reservation.log();
     let lsn = reservation.lsn();
     let pointer = reservation.pointer();
-    match reservation.spend(log, lsn, pointer) {
-        Ok(()) => {}
-        Err(_) => unreachable(),
-    }
+    reservation.spend(log, lsn, pointer).unwrap();
 }
 
 fn refusal(returned: Returned) -> LogFault {
