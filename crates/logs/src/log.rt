@@ -65,8 +65,6 @@ pub trait Log {
 }
 
 // What every log keeps: which messages are live after each call.
-pub fn laws_stand() -> u8
+pub fn laws_stand()
     ensures { Standing }
-{
-    0
-}
+{}

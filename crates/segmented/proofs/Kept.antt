@@ -4,13 +4,13 @@ use Rattle.book.specs.declared.head.Head.{Head}
 use Rattle.book.specs.declared.book.Book.{Book}
 use Rattle.book.specs.Heads.{lives}
 use Rattle.book.specs.Books.{heads_of, mem_of, Kin, Compacted}
-use Rattle.book.proofs.Headers.{both_1}
 use Rattle.segmented.specs.declared.segmented.Segmented.{Segmented}
 use Rattle.fault.specs.Pointers.{lid_of}
 use Rattle.segmented.specs.Layout.{placed, laid, in_seg, free_seg, seg_busy, count_seg, share}
 use Rattle.segmented.proofs.Counting.{packed-lives, packed_open, packed_push, packed-kin}
 use Rattle.segmented.proofs.Laying.{laid_push, laid-bare, laid-lives, laid_open, vacant_lives}
 use Rattle.segmented.proofs.Putting.{not_true}
+use Rattle.std.proofs.lemmas.Bool.{and_parts}
 
 pub record Keeps (segs slots a f : ℕ) (b : Book) : Type 0 where
   pub few : segs ≤ 65536
@@ -59,7 +59,7 @@ module _ (s : Segmented) (c : Book) where
   pub open_keeps : Compacted s.book c → (b : ℕ) → b < s.segs → free_seg s.active (heads_of s.book) b ≡ true → Keeps s.segs s.slots b 0 c
   open_keeps e b i f =
       let hs = heads_of s.book in
-      let v = vacant_lives (in_seg b) hs (not_true (seg_busy b hs) (both_1 (not (eqb b s.active)) _ f)) in
+      let v = vacant_lives (in_seg b) hs (not_true (seg_busy b hs) (and_parts (not (eqb b s.active)) _ f).1) in
       let sized = ap (λ v. length (vec_items v)) e.mem ∙ s.sized in
       let lay : laid s.segs s.slots b 0 (heads_of c) ≡ true = rw e.heads (laid_open s.segs s.slots s.active s.fill b (lives hs) s.filled v (laid-lives s.segs s.slots s.active s.fill hs s.lay)) in
       let packed : (q : ℕ) → count_seg q (heads_of c) * 32 ≤ share b 0 q =

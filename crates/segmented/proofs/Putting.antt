@@ -8,21 +8,25 @@ use Rattle.logs.specs.declared.messages.Kind.{Kind}
 use Rattle.fault.specs.declared.disk_pointer.DiskPtr.{DiskPtr}
 use Rattle.fault.specs.declared.disk_pointer.DiskPtr.TheVariants.{Inline, Blob}
 use Rattle.logs.specs.declared.reservation.Reservation.{Reservation}
-use Rattle.logs.specs.Meaning.{Message, State, either, any_pending, is_pending, is_live, pending, live, dead, cancelled, Sheds, same_blob, same_ptr, is_blob, live_at}
+use Rattle.logs.specs.Meaning.{Message, any_pending, is_pending, is_live, Sheds, same_blob, same_ptr, live_at}
 use Rattle.logs.specs.Clauses.{fresh, Reserved, Moved, blob_there}
 use Rattle.book.specs.declared.head.Head.{Head}
 use Rattle.book.specs.declared.book.Book.{Book}
-use Rattle.logs.specs.Meaning.{state_of}
 use Rattle.book.specs.Heads.{message, messages, lives, live_head, payload_of}
 use Rattle.book.specs.Books.{heads_of, mem_of, told, new_head, Ready, Appended, Overwritten, Compacted, LiveIndex}
-use Rattle.logs.proofs.Laws.{both_no}
 use Rattle.book.proofs.Pages.{found-there, no_head}
-use Rattle.book.proofs.Headers.{both_0, both_1, both_yes, is-ranked, messages_push, messages_below, sheds-none}
+use Rattle.book.proofs.Headers.{is-ranked, messages_push, messages_below, sheds-none}
 use Rattle.segmented.specs.declared.segmented.Segmented.{Segmented}
-use Rattle.segmented.specs.Layout.{homed, placed, laid, some_head, in_slot, free_seg, free_slot, slot_busy, some_below, slot_is}
+use Rattle.segmented.specs.Layout.{homed, placed, laid, in_slot, free_seg, free_slot, slot_busy, some_below, slot_is}
 use Rattle.segmented.proofs.Counting.{header_left}
 use Rattle.segmented.specs.Segments.{seg_means, seg_fits, ready, Able, Prepared, Swept, Put}
 use Rattle.segmented.proofs.Laying.{limit-here, home, to_placed, vacant_lives, sheds-lives, Apart_inlines, Apart_blobs, messages_apart, part_new, Apart}
+use Rattle.std.proofs.lemmas.Bool.{and_from, and_parts}
+use Rattle.std.proofs.Math.Bool.{and-false, or-true}
+use Rattle.logs.specs.declared.messages.Status.TheVariants.{Pending, Live, Dead, Cancelled}
+use Rattle.logs.specs.declared.messages.Status.{Status}
+use Rattle.fault.specs.Pointers.{is_blob}
+use Rattle.std.specs.List.{list_any}
 
 appended_told : (c d : Book) (p : ℕ) (k : Kind) (o : DiskPtr) (at n : ℕ) (r : Reservation) → Appended c d p k o at n r → told d ≡ told c ++ (message (mem_of c) (new_head c.next p k o at n) ∷ [])
 appended_told c d p k o at n r a =
@@ -30,7 +34,7 @@ appended_told c d p k o at n r a =
     ap (λ v. messages (vec_items v) (heads_of d)) a.mem ∙ ap (messages (mem_of c)) a.heads ∙ messages_push (mem_of c) (heads_of c) x
 
 -- the message that a header stands for
-new_message : (c d : Book) (p : ℕ) (k : Kind) (bytes : List ℕ) (o : DiskPtr) (at n : ℕ) (r : Reservation) → Appended c d p k o at n r → take n (drop at (mem_of c)) ≡ bytes → n ≡ length bytes → message (mem_of c) (new_head c.next p k o at n) ≡ fresh p k bytes (length bytes + 32) r pending
+new_message : (c d : Book) (p : ℕ) (k : Kind) (bytes : List ℕ) (o : DiskPtr) (at n : ℕ) (r : Reservation) → Appended c d p k o at n r → take n (drop at (mem_of c)) ≡ bytes → n ≡ length bytes → message (mem_of c) (new_head c.next p k o at n) ≡ fresh p k bytes (length bytes + 32) r Pending
 new_message c d p k bytes o at n r a pay e = rw (pay, a.lsn, a.pointer, sym e) refl
 
 over-told : (b c : Book) (at : ℕ) (bytes : List ℕ) → Overwritten b c at bytes → at ≤ length (mem_of b) → Apart at (length bytes) (heads_of b) → told c ≡ told b
@@ -47,7 +51,7 @@ blob-room s i n h m = omega (arith, s.sized)
 pub inline_apart : (s : Segmented) (n : ℕ) → Able s (32 + n) → Apart (s.active * 4096 + s.fill + 32) n (heads_of s.book)
 inline_apart s n h = Apart_inlines s.segs s.slots s.active s.fill n (heads_of s.book) s.inside h.there s.lay
 
-pub blob_apart : (s : Segmented) (i n : ℕ) → n ≤ 1152 → some_head (in_slot i) (heads_of s.book) ≡ false → Apart (s.segs * 4096 + i * 1152) n (heads_of s.book)
+pub blob_apart : (s : Segmented) (i n : ℕ) → n ≤ 1152 → list_any (in_slot i) (heads_of s.book) ≡ false → Apart (s.segs * 4096 + i * 1152) n (heads_of s.book)
 blob_apart s i n m v = Apart_blobs s.segs s.slots s.active s.fill n i (heads_of s.book) s.filled m v s.lay
 
 -- a payload that lies apart changes no message, so that one more may be added
@@ -62,13 +66,13 @@ over-ready s c at bytes need w l t h m = record {
 
 module _ (s : Segmented) (c d : Book) (p : ℕ) (k : Kind) (bytes : List ℕ) (o : DiskPtr) (at : ℕ) (r : Reservation)
     (w : Overwritten s.book c at bytes) (a : Appended c d p k o at (length bytes) r) (l : at + length bytes ≤ length (mem_of s.book)) (t : Apart at (length bytes) (heads_of s.book)) where
-  over-after : told d ≡ told s.book ++ (fresh p k bytes (length bytes + 32) r pending ∷ [])
+  over-after : told d ≡ told s.book ++ (fresh p k bytes (length bytes + 32) r Pending ∷ [])
   over-after =
       let within : at ≤ length (mem_of s.book) = omega arith in
       let pay : take (length bytes) (drop at (mem_of c)) ≡ bytes = ap (λ (m : List ℕ). take (length bytes) (drop at m)) w.mem ∙ part_new at (length bytes) (mem_of s.book) bytes within refl in
       appended_told c d p k o at (length bytes) r a
       ∙ ap (λ (m : Message). told c ++ (m ∷ [])) (new_message c d p k bytes o at (length bytes) r a pay refl)
-      ∙ ap (λ (ms : List Message). ms ++ (fresh p k bytes (length bytes + 32) r pending ∷ [])) (over-told s.book c at bytes w within t)
+      ∙ ap (λ (ms : List Message). ms ++ (fresh p k bytes (length bytes + 32) r Pending ∷ [])) (over-told s.book c at bytes w within t)
 
   pub over-put : (u : Segmented) → u.book ≡ d → Put s u p k bytes r
   over-put u e = record {
@@ -117,14 +121,14 @@ quiet-lives : (mem : List ℕ) (hs : List Head) → any_pending (messages mem (l
 quiet-lives mem [] = refl
 quiet-lives mem (h ∷ hs) = at (quiet-lives mem hs) (live_head h) refl
   where
-    live-calm : (s : State) → is_live s ≡ true → is_pending s ≡ false
-    live-calm pending e = sym e
-    live-calm live e = refl
-    live-calm dead e = refl
-    live-calm cancelled e = refl
+    live-calm : (s : Status) → is_live s ≡ true → is_pending s ≡ false
+    live-calm Pending e = sym e
+    live-calm Live e = refl
+    live-calm Dead e = refl
+    live-calm Cancelled e = refl
 
     at : any_pending (messages mem (lives hs)) ≡ false → (b : Bool) → live_head h ≡ b → any_pending (messages mem (cond b (h ∷ lives hs) (lives hs))) ≡ false
-    at k true e = rw (live-calm (state_of h.status) e) k
+    at k true e = rw (live-calm h.status e) k
     at k false e = k
 
 kept-sheds : (s t : Segmented) (need : ℕ) → any_pending (told s.book) ≡ false → Prepared s t need → Sheds (told s.book) (told t.book)
@@ -238,21 +242,21 @@ swept s t u need n a b =
       able = able-by u need calm low n there;
     }
 
-pub slot_vacant : (s t u : Segmented) (need i : ℕ) → Prepared s t need → Swept t u → free_slot (heads_of s.book) i ≡ true → some_head (in_slot i) (heads_of u.book) ≡ false
+pub slot_vacant : (s t u : Segmented) (need i : ℕ) → Prepared s t need → Swept t u → free_slot (heads_of s.book) i ≡ true → list_any (in_slot i) (heads_of u.book) ≡ false
 slot_vacant s t u need i a b f = rw (swept-heads s t u need a b) (vacant_lives (in_slot i) (heads_of s.book) (not_true (slot_busy i (heads_of s.book)) f))
 
 -- a live blob
 pub laid-at : (segs slots a f : ℕ) (hs : List Head) → laid segs slots a f hs ≡ true → (i : ℕ) (d : Head) → i < length hs → placed segs slots a f (get_or hs i d) ≡ true
 laid-at segs slots a f [] t i d h = absurd (omega arith)
-laid-at segs slots a f (x ∷ hs) t zero d h = both_0 (placed segs slots a f x) _ t
-laid-at segs slots a f (x ∷ hs) t (suc i) d h = laid-at segs slots a f hs (both_1 (placed segs slots a f x) _ t) i d (omega arith)
+laid-at segs slots a f (x ∷ hs) t zero d h = (and_parts (placed segs slots a f x) _ t).0
+laid-at segs slots a f (x ∷ hs) t (suc i) d h = laid-at segs slots a f hs (and_parts (placed segs slots a f x) _ t).1 i d (omega arith)
 
 pub same_slot : (i : ℕ) (o u : DiskPtr) → same_ptr o u ≡ true → slot_is i u ≡ true → slot_is i o ≡ true
 same_slot i (Inline x) (Inline y) h k = k
 same_slot i (Inline x) (Blob y j) h k = h
 same_slot i (Blob x l) (Inline y) h k = absurd (let z : ◌≡◌ {A = ℕ} 0 1 = cc in omega arith)
 same_slot i (Blob x l) (Blob y j) h k =
-    let a : l ≡ j = (Decides-int_eq l j).0 (both_1 (eqb x y) _ h) in
+    let a : l ≡ j = (Decides-int_eq l j).0 (and_parts (eqb x y) _ h).1 in
     rw a k
 
 pub home_slot : (segs slots i : ℕ) (o : DiskPtr) (at n : ℕ) → slot_is i o ≡ true → homed segs slots o at n ≡ true → (i < slots) × (at ≡ segs * 4096 + i * 1152) × (n ≤ 1152)
@@ -260,10 +264,10 @@ home_slot segs slots i (Inline x) at n k t = absurd (let z : ◌≡◌ {A = ℕ}
 home_slot segs slots i (Blob x (negsuc j)) at n k t = absurd (let z : ◌≡◌ {A = ℕ} 0 1 = cc in omega arith)
 home_slot segs slots i (Blob x (pos j)) at n k t =
     let e : j ≡ i = eqb-true j i k in
-    let b = both_1 (ltb j slots) _ t in
-    let l = ltb-true j slots (both_0 (ltb j slots) _ t) in
-    let w = eqb-true at (segs * 4096 + j * 1152) (both_0 (eqb at (segs * 4096 + j * 1152)) _ b) in
-    (omega arith, omega arith, leb-true n 1152 (both_1 (eqb at (segs * 4096 + j * 1152)) _ b))
+    let b = (and_parts (ltb j slots) _ t).1 in
+    let l = ltb-true j slots (and_parts (ltb j slots) _ t).0 in
+    let w = eqb-true at (segs * 4096 + j * 1152) (and_parts (eqb at (segs * 4096 + j * 1152)) _ b).0 in
+    (omega arith, omega arith, leb-true n 1152 (and_parts (eqb at (segs * 4096 + j * 1152)) _ b).1)
 
 pub same-blob-at : (i : ℕ) (r o : DiskPtr) → slot_is i o ≡ true → ((x : ℕ) → same_blob r (Blob x (pos i)) ≡ true) → same_blob r o ≡ true
 same-blob-at i r (Inline x) k f = absurd (let z : ◌≡◌ {A = ℕ} 0 1 = cc in omega arith)
@@ -277,7 +281,7 @@ blob-home s l o i j x h at k =
     home_slot s.segs s.slots i x.pointer x.at x.len (same_slot i x.pointer o q k) (home s.segs s.slots s.active s.fill x p)
 
 pub blob-there : (b : Book) (l : ℕ) (o : DiskPtr) (j : ℕ) (x : Head) → LiveIndex (mem_of b) (heads_of b) l o (Some j) → x ≡ get_or (heads_of b) j x → is_blob o ≡ true → blob_there (told b) l o ≡ true
-blob-there b l o j x h at k = both_yes (is_blob o) _ k (ap is_some (found-there b l o j x h at))
+blob-there b l o j x h at k = and_from (is_blob o) _ k (ap is_some (found-there b l o j x h at))
 
 pub moved : (s t u : Segmented) (p l : ℕ) (o : DiskPtr) (i j : ℕ) (x : Head) (r : Reservation) → LiveIndex (mem_of s.book) (heads_of s.book) l o (Some j) → x ≡ get_or (heads_of s.book) j x → is_blob o ≡ true → slot_is i o ≡ true
     → any_pending (told s.book) ≡ false → Prepared s t 32 → ready s.segs s.active s.fill s.book 32 ≡ true
@@ -287,7 +291,7 @@ moved s t u p l o i j x r h at bl sl quiet a fits put same =
     let e : take x.len (drop (t.segs * 4096 + i * 1152) (mem_of t.book)) ≡ payload_of (mem_of s.book) x =
     ap (λ (n : ℕ). take x.len (drop (n * 4096 + i * 1152) (mem_of t.book))) a.segs ∙ ap (λ v. take x.len (drop (s.segs * 4096 + i * 1152) (vec_items v))) a.mem ∙ ap (λ (n : ℕ). take x.len (drop n (mem_of s.book))) (sym w.1) in
     let P : List ℕ → Type 0 = λ y. Put t u p x.kind y r in
-    let small : length (payload_of (mem_of s.book) x) ≤ 1152 = simp (length-take) (omega (arith, w.2)) in
+    let small : length (payload_of (mem_of s.book) x) ≤ 1152 = simp length-take (omega (arith, w.2)) in
     record {
       source = message (mem_of s.book) x;
       there = found-there s.book l o j x h at;
@@ -299,14 +303,14 @@ moved s t u p l o i j x r h at bl sl quiet a fits put same =
 -- no message has a slot below 0
 live-below : (segs slots a f : ℕ) (mem : List ℕ) (hs : List Head) (l x i : ℕ) → laid segs slots a f hs ≡ true → live_at (messages mem hs) l (Blob x (negsuc i)) ≡ None
 live-below segs slots a f mem [] l x i t = refl
-live-below segs slots a f mem (h ∷ hs) l x i t = at (live-below segs slots a f mem hs l x i (both_1 (placed segs slots a f h) _ t)) h.pointer refl
+live-below segs slots a f mem (h ∷ hs) l x i t = at (live-below segs slots a f mem hs l x i (and_parts (placed segs slots a f h) _ t).1) h.pointer refl
   where
     here : homed segs slots h.pointer h.at h.len ≡ true
-    here = home segs slots a f h (both_0 (placed segs slots a f h) _ t)
+    here = home segs slots a f h (and_parts (placed segs slots a f h) _ t).0
 
     at : live_at (messages mem hs) l (Blob x (negsuc i)) ≡ None → (o : DiskPtr) → h.pointer ≡ o → live_at (messages mem (h ∷ hs)) l (Blob x (negsuc i)) ≡ None
-    at rest (Inline y) e = rw (e, both_no (eqb h.lsn l), both_no (is_live (state_of h.status))) rest
-    at rest (Blob y (pos j)) e = rw (e, both_no (eqb y x), both_no (eqb h.lsn l), both_no (is_live (state_of h.status))) rest
+    at rest (Inline y) e = rw (e, and-false (eqb h.lsn l), and-false (is_live h.status)) rest
+    at rest (Blob y (pos j)) e = rw (e, and-false (eqb y x), and-false (eqb h.lsn l), and-false (is_live h.status)) rest
     at rest (Blob y (negsuc j)) e =
         let q : homed segs slots (Blob y (negsuc j)) h.at h.len ≡ true = rw e at here in
         absurd (let z : ◌≡◌ {A = ℕ} 0 1 = cc in omega arith)
@@ -318,7 +322,7 @@ no_slot s l (Blob x (pos i)) n = let z : true ≡ false = sym (eq-eqb i i refl) 
 no_slot s l (Blob x (negsuc i)) n = ap is_some (live-below s.segs s.slots s.active s.fill (mem_of s.book) (heads_of s.book) l x i s.lay)
 
 pub there-blob : (b : Book) (l : ℕ) (o : DiskPtr) (j : ℕ) → LiveIndex (mem_of b) (heads_of b) l o (Some j) → is_blob o ≡ true → blob_there (told b) l o ≡ true
-there-blob b l o j h k = both_yes (is_blob o) _ k (ap is_some (h.1 no_head).3)
+there-blob b l o j h k = and_from (is_blob o) _ k (ap is_some (h.1 no_head).3)
 
 pub seg_of : (a f : ℕ) → f + 32 ≤ 4096 → (a * 4096 + f) / 4096 ≡ a
 seg_of a f h = omega arith
@@ -342,12 +346,8 @@ prepared_open s t need c es eo low n l =
       able = able-by t need calm near n l;
     }
 
-either_yes : (a : Bool) → either a true ≡ true
-either_yes true = refl
-either_yes false = refl
-
 pub ready-here : (segs a f : ℕ) (b : Book) (need : ℕ) → b.next < 2 ^ 62 → f + need ≤ 4096 → ready segs a f b need ≡ true
 ready-here segs a f b need l h = rw (lt-ltb b.next (2 ^ 62) l, le-leb (f + need) 4096 h) refl
 
 pub ready_open : (segs a f : ℕ) (b : Book) (need : ℕ) → b.next < 2 ^ 62 → some_below (free_seg a (heads_of b)) segs ≡ true → ready segs a f b need ≡ true
-ready_open segs a f b need l h = rw (lt-ltb b.next (2 ^ 62) l, h) (either_yes (leb (f + need) 4096))
+ready_open segs a f b need l h = rw (lt-ltb b.next (2 ^ 62) l, h) (or-true (leb (f + need) 4096))

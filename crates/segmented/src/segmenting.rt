@@ -3,7 +3,7 @@ ghost use Rattle.fault.specs.declared.disk_pointer.DiskPtr.TheVariants as pointe
 ghost use Rattle.logs.specs.Meaning.{any_pending, same_blob};
 ghost use Rattle.logs.specs.Clauses.{OnReserve};
 ghost use Rattle.book.specs.Books.{heads_of, mem_of, told};
-ghost use Rattle.segmented.specs.Layout.{free_seg, free_slot, Picked, some_head, in_slot};
+ghost use Rattle.segmented.specs.Layout.{free_seg, free_slot, Picked, in_slot};
 ghost use Rattle.segmented.specs.Segments.{seg_means, empty_segmented, OnReady, Able, Swept, Put, Proposes};
 
 use crate::scans::{lowest_page, seg_busy, slot_busy, slot_of, sparse_segment};

@@ -4,14 +4,16 @@ use Rattle.std.proofs.lemmas.List.{length-append, length_push}
 use Rattle.fault.specs.declared.disk_pointer.DiskPtr.{DiskPtr}
 use Rattle.logs.specs.declared.messages.Kind.{Kind}
 use Rattle.logs.specs.declared.reservation.Reservation.{Reservation}
-use Rattle.logs.specs.Meaning.{any_pending, is_blob}
+use Rattle.logs.specs.Meaning.{any_pending}
 use Rattle.book.specs.declared.book.Book.{Book}
 use Rattle.book.specs.Heads.{inlined, messages}
 use Rattle.book.specs.Books.{heads_of, mem_of, told, Kin, Ready, Extended, Appended, new_head}
-use Rattle.book.proofs.Headers.{both_0, both_1, is-ranked}
+use Rattle.book.proofs.Headers.{is-ranked}
 use Rattle.book.proofs.Logs.{kin-length, kin-inlined, inlined_push, messages-grown}
 use Rattle.tape.specs.declared.tape.Tape.{Tape}
 use Rattle.tape.specs.Tapes.{used_by, tape_fits}
+use Rattle.std.proofs.lemmas.Bool.{and_parts}
+use Rattle.fault.specs.Pointers.{is_blob}
 
 -- what a tape of so many bytes keeps of its book
 pub record Keeps (room : ℕ) (b : Book) : Type 0 where
@@ -45,11 +47,11 @@ pub record Room (room : ℕ) (b : Book) (n : ℕ) : Type 0 where
 pub fitting : (room : ℕ) (b : Book) (n : ℕ) → tape_fits room b n ≡ true → Room room b n
 fitting room b n t =
     let used = used_by (length (heads_of b)) (length (mem_of b)) in
-    let u = both_1 (leb n 1152) _ t in
+    let u = (and_parts (leb n 1152) _ t).1 in
     record {
-      small = leb-true n 1152 (both_0 (leb n 1152) _ t);
-      behind = leb-true (used + 32 + n) room (both_0 (leb (used + 32 + n) room) _ u);
-      next = ltb-true b.next (2 ^ 62) (both_1 (leb (used + 32 + n) room) _ u);
+      small = leb-true n 1152 (and_parts (leb n 1152) _ t).0;
+      behind = leb-true (used + 32 + n) room (and_parts (leb (used + 32 + n) room) _ u).0;
+      next = ltb-true b.next (2 ^ 62) (and_parts (leb (used + 32 + n) room) _ u).1;
     }
 
 module _ (room : ℕ) (b c : Book) (bytes : List ℕ) (f : Room room b (length bytes)) (h : Keeps room b) where
