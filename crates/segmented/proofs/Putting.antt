@@ -199,12 +199,6 @@ over_1152 n h = at (leb n 1152) refl
     at true e = absurd (omega (arith, leb-true n 1152 e))
     at false e = e
 
-pub unfit_long : (segs slots a f : ℕ) (b : Book) (n : ℕ) → 1152 < n → seg_fits segs slots a f b n ≡ false
-unfit_long segs slots a f b n h = let g : 512 < n = omega arith in rw (over_512 n g, over_1152 n h)
-
-pub unfit_slots : (segs slots a f : ℕ) (b : Book) (n : ℕ) → 512 < n → n ≤ 1152 → some_below (free_slot (heads_of b)) slots ≡ false → seg_fits segs slots a f b n ≡ false
-unfit_slots segs slots a f b n g h e = rw (over_512 n g, le-leb n 1152 h, e)
-
 pub fits-blob : (segs slots a f : ℕ) (b : Book) (n : ℕ) (v : Bool) → 512 < n → n ≤ 1152 → some_below (free_slot (heads_of b)) slots ≡ true → ready segs a f b 32 ≡ v → seg_fits segs slots a f b n ≡ v
 fits-blob segs slots a f b n v g h e k = rw (over_512 n g, le-leb n 1152 h, e) k
 
@@ -279,9 +273,6 @@ blob-home s l o i j x h at k =
     let p : placed s.segs s.slots s.active s.fill x ≡ true = ap (placed s.segs s.slots s.active s.fill) at ∙ laid-at s.segs s.slots s.active s.fill (heads_of s.book) s.lay j x h.0 in
     let q : same_ptr x.pointer o ≡ true = ap (λ (y : Head). same_ptr y.pointer o) at ∙ (h.1 x).2 in
     home_slot s.segs s.slots i x.pointer x.at x.len (same_slot i x.pointer o q k) (home s.segs s.slots s.active s.fill x p)
-
-pub blob-there : (b : Book) (l : ℕ) (o : DiskPtr) (j : ℕ) (x : Head) → LiveIndex (mem_of b) (heads_of b) l o (Some j) → x ≡ get_or (heads_of b) j x → is_blob o ≡ true → blob_there (told b) l o ≡ true
-blob-there b l o j x h at k = and_from (is_blob o) _ k (ap is_some (found-there b l o j x h at))
 
 pub moved : (s t u : Segmented) (p l : ℕ) (o : DiskPtr) (i j : ℕ) (x : Head) (r : Reservation) → LiveIndex (mem_of s.book) (heads_of s.book) l o (Some j) → x ≡ get_or (heads_of s.book) j x → is_blob o ≡ true → slot_is i o ≡ true
     → any_pending (told s.book) ≡ false → Prepared s t 32 → ready s.segs s.active s.fill s.book 32 ≡ true

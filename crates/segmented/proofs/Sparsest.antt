@@ -37,9 +37,6 @@ Rival-low hs a n m c h r k l g = at (r k l g)
     at (inl e) = inl e
     at (inr e) = inr (omega arith)
 
-pub Sparse_start : (hs : List Head) (a : ℕ) → Sparse hs a 0 4 None
-Sparse_start hs a = (refl, λ k h g. absurd (omega arith))
-
 pub Sparse-low : (hs : List Head) (a n m : ℕ) (b : Option ℕ) → Sparse hs a n m b → (0 < m) × (m ≤ 4)
 Sparse-low hs a n m None s = (omega (arith, s.0), omega (arith, s.0))
 Sparse-low hs a n m (Some b) s = (s.3, omega (arith, s.4))
