@@ -90,7 +90,7 @@ same-is (Blob x i) (Blob y j) h =
     let p = and_parts (eqb x y) _ h in
     ap (λ (z : ℕ). Blob z i) (eqb-true x y p.0) ∙ ap (Blob y) ((Decides-int_eq i j).0 p.1)
 
-not_here : (l : ℕ) (o : DiskPtr) (m : Message) → (m.lsn ≡ l → ⊥) → is_at l o m ≡ false
+pub not_here : (l : ℕ) (o : DiskPtr) (m : Message) → (m.lsn ≡ l → ⊥) → is_at l o m ≡ false
 not_here l o m n = rw (ne_eqb m.lsn l n)
 
 -- what a test finds at position l, and nowhere else
@@ -301,7 +301,7 @@ live-quiet Live h = refl
 live-quiet Dead h = refl
 live-quiet Cancelled h = refl
 
-quiet-lives : (mem : List ℕ) (hs : List Head) → any_pending (messages mem (lives hs)) ≡ false
+pub quiet-lives : (mem : List ℕ) (hs : List Head) → any_pending (messages mem (lives hs)) ≡ false
 quiet-lives mem [] = refl
 quiet-lives mem (x ∷ hs) = at (quiet-lives mem hs) (live_head x) refl
   where

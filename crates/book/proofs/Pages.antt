@@ -16,15 +16,12 @@ use Rattle.book.specs.declared.head.Head.{Head}
 use Rattle.book.specs.declared.book.Book.{Book}
 use Rattle.book.specs.Heads.{message, messages, with_status, bare, payload_of}
 use Rattle.book.specs.Books.{heads_of, mem_of, told, LiveIndex, PendingIndex, Kin, Restated, Met, Settles, Marks}
-use Rattle.book.proofs.Headers.{is-ranked, sweep-one, sweep_not, bare_set, ranked-within, ranked-small}
+use Rattle.book.proofs.Headers.{not_here, is-ranked, sweep-one, sweep_not, bare_set, ranked-within, ranked-small}
 use Rattle.std.proofs.Math.Bool.{and-false}
 use Rattle.std.specs.Prelude.{◌&&◌}
 
 pub no_head : Head
 no_head = record { lsn = 0; pointer = Inline 0; page = 0; kind = Free; place = record { at = 0; len = 0 }; status = Dead }
-
-not_here : (l : ℕ) (o : DiskPtr) (m : Message) → (m.lsn ≡ l → ⊥) → is_at l o m ≡ false
-not_here l o m n = rw (ne_eqb m.lsn l n)
 
 pub kin_self : (b : Book) → Kin b b
 kin_self b = record { number = refl; stable = refl; next = refl; mem = refl; heads = refl; cap = refl }

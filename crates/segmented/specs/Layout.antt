@@ -24,7 +24,7 @@ homed segs slots (Blob x (negsuc i)) at n = false
 homed segs slots (Blob x (pos i)) at n = nat_lt i slots && ((at == segs * 4096 + i * 1152) && nat_le n 1152)
 
 abbrev pub placed : ℕ → ℕ → ℕ → ℕ → Head → Bool
-placed segs slots a f h = (nat_lt (lid_of h.pointer / 4096) segs) && ((nat_le (lid_of h.pointer + foot_of h.pointer h.len) (limit a f (lid_of h.pointer / 4096))) && homed segs slots h.pointer h.at h.len)
+placed segs slots a f h = (nat_lt (lid_of h.pointer / 4096) segs) && ((nat_le (lid_of h.pointer + foot_of h.pointer h.place.len) (limit a f (lid_of h.pointer / 4096))) && homed segs slots h.pointer h.place.at h.place.len)
 
 abbrev pub laid : ℕ → ℕ → ℕ → ℕ → List Head → Bool
 laid segs slots a f [] = true
@@ -97,10 +97,6 @@ Rival hs a n m = (k : ℕ) → k < n → (k ≢ a) → (count_live k hs ≡ 0) �
 abbrev pub Sparse : List Head → ℕ → ℕ → ℕ → Option ℕ → Type 0
 Sparse hs a n m None = (m ≡ 4) × Rival hs a n 4
 Sparse hs a n m (Some b) = (b < n) × (b ≢ a) × (count_live b hs ≡ m) × (0 < m) × (m < 4) × Rival hs a n m × Rival hs a b (m + 1)
-
-abbrev pub at_most : Option ℕ → ℕ → Bool
-at_most None n = false
-at_most (Some p) n = nat_le p n
 
 abbrev pub live_in : ℕ → Head → Bool
 live_in q h = live_head h && in_seg q h
