@@ -50,7 +50,7 @@ fn show_head(rt: &HostRuntime, head: &Head) -> io::Result<()> {
     let pointer = head.pointer;
     let page = head.page;
     let kind = head.kind;
-    let len = head.len;
+    let len = head.place.len;
     let status = head.status;
     println!(rt; "    {lsn} {pointer:?} page {page} {kind:?} {len} {status:?}")
 }
