@@ -1,6 +1,6 @@
 -- Headers by index. Assumes nothing.
 use Rattle.std.proofs.Common.{Bor, MatchOption, eqb, ◌≡◌, ℕ, zero, suc, ◌+◌, ◌-◌, ◌<◌, ◌≤◌, Bool, true, false, cond, not, ltb, leb, ◌⊎◌, List, [], ◌∷◌, ◌++◌, length, get_or, set, Some, None, refl, ap, ◌∙◌, inl, inr, arith, ltb-true, lt-ltb, eq-eqb, ne_eqb, le-leb, leb-true, Ok, Err, Result, Option, sym, subst, eqb-true, tests}
-use Rattle.std.proofs.lemmas.Bool.{cases_lt, not-true, and_from, and_parts, or_parts, false_from_ne_true, cases_order, false≢true}
+use Rattle.std.proofs.lemmas.Bool.{true≢false, cases_lt, not-true, and_from, and_parts, or_parts, false_from_ne_true, cases_order, false≢true}
 use Rattle.std.proofs.lemmas.List.{get_or_read, length-append, nil_from_length}
 use Rattle.fault.specs.declared.disk_pointer.DiskPtr.{DiskPtr}
 use Rattle.logs.specs.Meaning.{met, Message, is_pending, is_live, is_at, same_ptr, sweep, any_pending, pending_at, live_at, Sheds, none, kept, Below}
@@ -165,13 +165,13 @@ module _ (mem : List ℕ) (l : ℕ) (o : DiskPtr) (s : Status) (T : Status → B
   none-sought [] n = refl
   none-sought (x ∷ hs) n = rw (dull (message mem x) (λ f. n 0 x (omega arith) f)) (none-sought hs (λ k d h f. n (suc k) d (omega arith) f))
 
-only-live : (t : Status) → is_live t ≡ true → t ≡ Live
+pub only-live : (t : Status) → is_live t ≡ true → t ≡ Live
 only-live Live h = refl
 only-live Pending h = absurd (false≢true h)
 only-live Dead h = absurd (false≢true h)
 only-live Cancelled h = absurd (false≢true h)
 
-only-pending : (t : Status) → is_pending t ≡ true → t ≡ Pending
+pub only-pending : (t : Status) → is_pending t ≡ true → t ≡ Pending
 only-pending Pending h = refl
 only-pending Live h = absurd (false≢true h)
 only-pending Dead h = absurd (false≢true h)
@@ -296,10 +296,7 @@ calm-quiet mem (y ∷ []) q = refl
 calm-quiet mem (y ∷ z ∷ hs) q = rw (or_parts (is_pending y.status) _ q).0 (calm-quiet mem (z ∷ hs) (or_parts (is_pending y.status) _ q).1)
 
 live-quiet : (s : Status) → is_live s ≡ true → is_pending s ≡ false
-live-quiet Pending h = absurd (let z : ◌≡◌ {A = ℕ} 0 1 = cc in omega arith)
-live-quiet Live h = refl
-live-quiet Dead h = refl
-live-quiet Cancelled h = refl
+live-quiet s h = ap is_pending (only-live s h)
 
 pub quiet-lives : (mem : List ℕ) (hs : List Head) → any_pending (messages mem (lives hs)) ≡ false
 quiet-lives mem [] = refl
@@ -314,7 +311,7 @@ lives-calm hs gs e = rw e (calm-quiet [] (lives hs) (quiet-lives [] hs))
 
 -- no event makes a message pending
 pub met-calm : (s : Status) (e : Event) → is_pending s ≡ false → is_pending (met s e) ≡ false
-met-calm Pending e h = absurd (let z : ◌≡◌ {A = ℕ} 0 1 = cc in omega arith)
+met-calm Pending e h = absurd (true≢false h)
 met-calm Live Complete h = refl
 met-calm Live Abort h = refl
 met-calm Live Mark h = refl
@@ -322,7 +319,7 @@ met-calm Dead e h = refl
 met-calm Cancelled e h = refl
 
 stays-calm : (a b c : Bool) → (a ≡ false → b ≡ false) → (not a && c) ≡ true → (not b && c) ≡ true
-stays-calm true b c f h = absurd (let z : ◌≡◌ {A = ℕ} 0 1 = cc in omega arith)
+stays-calm true b c f h = absurd (false≢true h)
 stays-calm false b c f h = rw (f refl) h
 
 pub calm_set : (hs : List Head) (k : ℕ) (d : Head) (s : Status) → (is_pending (get_or hs k d).status ≡ false → is_pending s ≡ false) → calm hs ≡ true → calm (set hs k (with_status s (get_or hs k d))) ≡ true

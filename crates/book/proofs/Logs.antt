@@ -16,7 +16,7 @@ use Rattle.book.specs.Heads.{message, messages, bare, Ranked, inlined}
 use Rattle.book.specs.Books.{heads_of, mem_of, told, book_means, Kin, BookSettle, Marks, new_head, Appended, Extended}
 use Rattle.book.proofs.Headers.{span, is-ranked, messages_push, messages_below, sheds-none}
 use Rattle.book.proofs.Pages.{kin_self}
-use Rattle.std.proofs.lemmas.Bool.{and_from, and_parts}
+use Rattle.std.proofs.lemmas.Bool.{false≢true, and_from, and_parts}
 use Rattle.std.proofs.Math.Bool.{and-false}
 use Rattle.logs.specs.declared.messages.Status.TheVariants.{Pending}
 use Rattle.fault.specs.Pointers.{is_blob}
@@ -60,7 +60,7 @@ live-inlined mem (h ∷ hs) l x i t = at (live-inlined mem hs l x i (and_parts (
     at rest (Inline y) e = rw (e, and-false (eqb h.lsn l), and-false (is_live h.status)) rest
     at rest (Blob y j) e =
         let q : not (is_blob (Blob y j)) ≡ true = rw e at plain in
-        absurd (let z : ◌≡◌ {A = ℕ} 0 1 = cc in omega arith)
+        absurd (false≢true q)
 
 pub no_blob : (mem : List ℕ) (hs : List Head) (l : ℕ) (o : DiskPtr) → inlined hs ≡ true → blob_there (messages mem hs) l o ≡ false
 no_blob mem hs l (Inline x) t = refl

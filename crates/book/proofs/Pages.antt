@@ -9,14 +9,14 @@ use Rattle.logs.specs.declared.reservation.Reservation.{Reservation}
 use Rattle.logs.specs.Meaning.{met, Message, is_pending, is_live, is_at, settle, mark, named, live_at}
 use Rattle.logs.proofs.Laws.{mark-none, mark_push, mark_empty}
 use Rattle.logs.specs.declared.messages.Status.{Status}
-use Rattle.logs.specs.declared.messages.Status.TheVariants.{Pending, Live, Dead, Cancelled}
+use Rattle.logs.specs.declared.messages.Status.TheVariants.{Pending, Dead}
 use Rattle.logs.specs.declared.messages.Event.{Event}
-use Rattle.logs.specs.declared.messages.Event.TheVariants.{Complete, Abort, Mark}
+use Rattle.logs.specs.declared.messages.Event.TheVariants.{Mark}
 use Rattle.book.specs.declared.head.Head.{Head}
 use Rattle.book.specs.declared.book.Book.{Book}
 use Rattle.book.specs.Heads.{message, messages, with_status, bare, payload_of}
 use Rattle.book.specs.Books.{heads_of, mem_of, told, LiveIndex, PendingIndex, Kin, Restated, Met, Settles, Marks}
-use Rattle.book.proofs.Headers.{not_here, is-ranked, sweep-one, sweep_not, bare_set, ranked-within, ranked-small}
+use Rattle.book.proofs.Headers.{only-live, only-pending, not_here, is-ranked, sweep-one, sweep_not, bare_set, ranked-within, ranked-small}
 use Rattle.std.proofs.Math.Bool.{and-false}
 use Rattle.std.specs.Prelude.{◌&&◌}
 
@@ -37,19 +37,11 @@ restated_told {b = b} {c = c} {i = i} {s = s} h d = rw (h.mem, h.items d) refl
 
 -- a pending message meets complete or abort as the meaning says
 met-pending : (s : Status) (e : Event) → is_pending s ≡ true → (met s e) ≡ met Pending e
-met-pending Pending Complete h = refl
-met-pending Pending Abort h = refl
-met-pending Pending Mark h = refl
-met-pending Live e h = absurd (let z : ◌≡◌ {A = ℕ} 0 1 = cc in omega arith)
-met-pending Dead e h = absurd (let z : ◌≡◌ {A = ℕ} 0 1 = cc in omega arith)
-met-pending Cancelled e h = absurd (let z : ◌≡◌ {A = ℕ} 0 1 = cc in omega arith)
+met-pending s e h = ap (λ (t : Status). met t e) (only-pending s h)
 
 -- and a live one is dead where it is marked
 met-live : (s : Status) → is_live s ≡ true → met s Mark ≡ Dead
-met-live Live h = refl
-met-live Pending h = absurd (let z : ◌≡◌ {A = ℕ} 0 1 = cc in omega arith)
-met-live Dead h = absurd (let z : ◌≡◌ {A = ℕ} 0 1 = cc in omega arith)
-met-live Cancelled h = absurd (let z : ◌≡◌ {A = ℕ} 0 1 = cc in omega arith)
+met-live s h = ap (λ (t : Status). met t Mark) (only-live s h)
 
 pub settles : (b c : Book) (r : Reservation) (i : ℕ) (e : Event) → r.log ≡ b.number → PendingIndex (mem_of b) (heads_of b) r.lsn r.pointer (Some i) → Met b c i e → Settles b c r e
 settles b c r i e mine p m =

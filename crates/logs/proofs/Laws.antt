@@ -1,4 +1,6 @@
 -- What the calls of a log leave of the live messages. Assumes nothing.
+use Rattle.std.proofs.lemmas.Option.{none-some}
+use Rattle.std.proofs.lemmas.Bool.{true≢false, false≢true, or_from, or_parts}
 use Rattle.std.proofs.Common.{◌≡◌, ℕ, ◌<◌, Bool, true, false, eqb, List, [], ◌∷◌, ◌++◌, Some, None, Option, sym, refl, ap, ◌∙◌, arith, eq-eqb, ne_eqb, eqb-true}
 use Rattle.std.proofs.lemmas.Cmp.{int_eq_equiv}
 use Rattle.logs.specs.declared.messages.Kind.{Kind}
@@ -15,7 +17,6 @@ use Rattle.logs.specs.Clauses.{fresh, Reserved, Settled, NotTaken, Written, Same
 use Rattle.std.proofs.lemmas.List.{append-nil}
 use Rattle.std.proofs.lemmas.List.Elements.{filter-append}
 use Rattle.std.proofs.lemmas.List.Folds.{list_any-append}
-use Rattle.std.proofs.lemmas.Bool.{or_from, or_parts}
 use Rattle.std.proofs.Math.Bool.{and-false, or-true}
 use Rattle.std.specs.Prelude.{◌&&◌, ◌||◌, cond}
 use Rattle.logs.specs.declared.messages.Status.TheVariants as status
@@ -26,7 +27,7 @@ eqb_refl n = eq-eqb n n refl
 
 pub done_dull : (s : Status) → is_done s ≡ true → is_live s ≡ false
 done_dull status.Pending h = refl
-done_dull status.Live h = absurd (let z : ◌≡◌ {A = ℕ} 0 1 = cc in omega arith)
+done_dull status.Live h = absurd (false≢true h)
 done_dull status.Dead h = refl
 done_dull status.Cancelled h = refl
 
@@ -60,7 +61,7 @@ or_step true m r s x f h = h
 or_step false m r s x f h = f h
 
 live-append : (ms ys : List Message) (l : ℕ) (o : DiskPtr) (x : Message) → live_at ms l o ≡ Some x → live_at (ms ++ ys) l o ≡ Some x
-live-append [] ys l o x h = absurd (let z : ◌≡◌ {A = ℕ} 0 1 = cc in omega arith)
+live-append [] ys l o x h = absurd (none-some x h)
 live-append (m ∷ ms) ys l o x h = or_step _ m _ _ x (live-append ms ys l o x) h
 
 live-fresh : (ks : List Message) (m : Message) → m.state ≡ status.Live → Below m.lsn ks → live_at (ks ++ (m ∷ [])) m.lsn m.pointer ≡ Some m
@@ -85,7 +86,7 @@ pending-there (k ∷ ks) m h = rw (pending-there ks m h, or-true (is_pending k.s
 
 -- a live message is older than what is above all
 pub live_below : (ms : List Message) (l : ℕ) (o : DiskPtr) (n : ℕ) (x : Message) → Below n ms → live_at ms l o ≡ Some x → l < n
-live_below [] l o n x b h = absurd (let z : ◌≡◌ {A = ℕ} 0 1 = cc in omega arith)
+live_below [] l o n x b h = absurd (none-some x h)
 live_below (m ∷ ms) l o n x b h = at (live_below ms l o n x b.1) (is_live m.state) (eqb m.lsn l) refl (same_ptr m.pointer o) h
   where
     at : (live_at ms l o ≡ Some x → l < n) → (a : Bool) (e : Bool) → eqb m.lsn l ≡ e → (f : Bool) → (cond (a && (e && f)) (Some m) (live_at ms l o)) ≡ Some x → l < n
@@ -126,10 +127,7 @@ module _ {M N : Meaning} {p : ℕ} {k : Kind} {bytes : List ℕ} {fit : Bool} {r
 
 -- a reservation is taken by the log that gave it
 pub taken : (N : Meaning) (r : Reservation) → pending_at N.messages r.lsn r.pointer ≡ true → r.log ≡ N.number → (f : LogFault) → NotTaken N.number N.messages r f → ⊥
-taken N r t m (NotPending o) h =
-    let z : ◌≡◌ {A = Bool} true false = sym t ∙ h.1 m in
-    let y : ◌≡◌ {A = ℕ} 0 1 = cc in
-    omega arith
+taken N r t m (NotPending o) h = true≢false (sym t ∙ h.1 m)
 taken N r t m (Bytes e) h = h
 taken N r t m (Full q) h = h
 taken N r t m (Pending q) h = h
@@ -218,7 +216,7 @@ mark-none p e [] h = refl
 mark-none p e (m ∷ ms) h = at (mark-none p e ms) (is_live m.state) refl (is_at e.lsn e.pointer m) refl h
   where
     at : (live_at ms e.lsn e.pointer ≡ None → mark p (e ∷ []) ms ≡ ms) → (a : Bool) → is_live m.state ≡ a → (b : Bool) → is_at e.lsn e.pointer m ≡ b → (cond (a && b) (Some m) (live_at ms e.lsn e.pointer)) ≡ None → mark p (e ∷ []) (m ∷ ms) ≡ m ∷ ms
-    at rest true x true y k = absurd (let z : ◌≡◌ {A = ℕ} 0 1 = cc in omega arith)
+    at rest true x true y k = absurd (none-some m (sym k))
     at rest true x false y k = rw (x, y, and-false (eqb m.page p), rest k)
     at rest false x b y k = rw (x, rest k)
 

@@ -50,6 +50,7 @@ fn told(number: u8, page: Option<PageId>, pointer: Option<DiskPtr>) -> Report
     }
 }
 
+// Kept: the derive that writes this would write `Display` too.
 impl From<BytesFault> for LogFault {
     ghost from_gives = { λ fault r. r ≡ Bytes fault };
 

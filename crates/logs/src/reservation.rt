@@ -60,6 +60,7 @@ impl Reservation {
     }
 
     // Ends the reservation of the message that a log has just settled; any other is given back.
+    // Kept: the three that name a message are its own fields, and a struct for them would be a second reservation.
     pub fn spend(self, log: u64, lsn: Position, pointer: DiskPtr) -> Result<(), Reservation>
         ensures { Spent self log lsn pointer result }
     {

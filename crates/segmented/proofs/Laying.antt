@@ -2,7 +2,7 @@
 use Rattle.std.proofs.Common.{Some, None, Option, MatchOption, ◌≡◌, ℕ, zero, suc, ◌+◌, ◌-◌, ◌*◌, ◌/◌, ◌<◌, ◌≤◌, Bool, true, false, cond, not, eqb, ltb, leb, ◌⊎◌, List, [], ◌∷◌, ◌++◌, length, take, drop, sym, refl, ap, ◌∙◌, inl, inr, arith, ltb-true, lt-ltb, eq-eqb, ne_eqb, eqb-true, le-leb, leb-true}
 use borrow.Rule.Slice.PartMut.{put_mid}
 use Rattle.std.specs.Prelude.{pos, negsuc, ◌&&◌, ◌||◌}
-use Rattle.std.proofs.lemmas.Bool.{eqb-false, or_from, or_left, or_right, cases_lt, cases_eq, and_from, and_parts, or_parts}
+use Rattle.std.proofs.lemmas.Bool.{false≢true, eqb-false, or_from, or_left, or_right, cases_lt, cases_eq, and_from, and_parts, or_parts}
 use Rattle.std.proofs.lemmas.List.{drop-take}
 use Rattle.std.proofs.lemmas.Slice.{take-put_mid_below, drop-put_mid, between-put_mid}
 use Rattle.fault.specs.declared.disk_pointer.DiskPtr.{DiskPtr}
@@ -154,7 +154,7 @@ Apart_inline segs slots a f n (Inline x) at len i r s u t = go (cases_eq (x / 40
     go (inl q) z = inl (omega (arith, e, limit-here a f (x / 4096) q))
     go (inr q) (inl z) = inl (omega (arith, e, limit-there a f (x / 4096) q))
     go (inr q) (inr z) = inr (omega (arith, e, q))
-Apart_inline segs slots a f n (Blob x (negsuc j)) at len i r s u t = absurd (let z : ◌≡◌ {A = ℕ} 0 1 = cc in omega arith)
+Apart_inline segs slots a f n (Blob x (negsuc j)) at len i r s u t = absurd (false≢true t)
 Apart_inline segs slots a f n (Blob x (pos j)) at len i r s u t =
     let b = (and_parts (ltb j slots) _ t).1 in
     let e : at ≡ segs * 4096 + j * 1152 = eqb-true at (segs * 4096 + j * 1152) (and_parts (eqb at (segs * 4096 + j * 1152)) _ b).0 in
@@ -171,7 +171,7 @@ Apart-blob segs slots a f n i (Inline x) at len l m v s u t =
     let e : at ≡ x + 32 = eqb-true at (x + 32) t in
     let w = limit-most a f (x / 4096) l in
     inl (omega arith)
-Apart-blob segs slots a f n i (Blob x (negsuc j)) at len l m v s u t = absurd (let z : ◌≡◌ {A = ℕ} 0 1 = cc in omega arith)
+Apart-blob segs slots a f n i (Blob x (negsuc j)) at len l m v s u t = absurd (false≢true t)
 Apart-blob segs slots a f n i (Blob x (pos j)) at len l m v s u t = go (cases_lt j i)
   where
     b : ((eqb at (segs * 4096 + j * 1152)) && leb len 1152) ≡ true

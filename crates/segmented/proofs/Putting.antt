@@ -15,7 +15,7 @@ use Rattle.book.specs.declared.book.Book.{Book}
 use Rattle.book.specs.Heads.{message, messages, lives, live_head, payload_of}
 use Rattle.book.specs.Books.{heads_of, mem_of, told, new_head, Ready, Appended, Overwritten, Compacted, LiveIndex}
 use Rattle.book.proofs.Pages.{found-there, no_head}
-use Rattle.std.proofs.lemmas.Bool.{lt-leb, not-true, and_from, and_parts}
+use Rattle.std.proofs.lemmas.Bool.{false≢true, true≢false, lt-leb, not-true, and_from, and_parts}
 use Rattle.book.proofs.Headers.{quiet-lives, span, is-ranked, messages_push, messages_below, sheds-none}
 use Rattle.segmented.specs.declared.segmented.Segmented.{Segmented}
 use Rattle.segmented.specs.Layout.{homed, placed, laid, in_slot, free_seg, free_slot, slot_busy, some_below, slot_is}
@@ -229,14 +229,14 @@ laid-at segs slots a f (x ∷ hs) t (suc i) d h = laid-at segs slots a f hs (and
 pub same_slot : (i : ℕ) (o u : DiskPtr) → same_ptr o u ≡ true → slot_is i u ≡ true → slot_is i o ≡ true
 same_slot i (Inline x) (Inline y) h k = k
 same_slot i (Inline x) (Blob y j) h k = h
-same_slot i (Blob x l) (Inline y) h k = absurd (let z : ◌≡◌ {A = ℕ} 0 1 = cc in omega arith)
+same_slot i (Blob x l) (Inline y) h k = absurd (false≢true h)
 same_slot i (Blob x l) (Blob y j) h k =
     let a : l ≡ j = (Decides-int_eq l j).0 (and_parts (eqb x y) _ h).1 in
     rw a k
 
 pub home_slot : (segs slots i : ℕ) (o : DiskPtr) (at n : ℕ) → slot_is i o ≡ true → homed segs slots o at n ≡ true → (i < slots) × (at ≡ segs * 4096 + i * 1152) × (n ≤ 1152)
-home_slot segs slots i (Inline x) at n k t = absurd (let z : ◌≡◌ {A = ℕ} 0 1 = cc in omega arith)
-home_slot segs slots i (Blob x (negsuc j)) at n k t = absurd (let z : ◌≡◌ {A = ℕ} 0 1 = cc in omega arith)
+home_slot segs slots i (Inline x) at n k t = absurd (false≢true k)
+home_slot segs slots i (Blob x (negsuc j)) at n k t = absurd (false≢true k)
 home_slot segs slots i (Blob x (pos j)) at n k t =
     let e : j ≡ i = eqb-true j i k in
     let b = (and_parts (ltb j slots) _ t).1 in
@@ -245,8 +245,8 @@ home_slot segs slots i (Blob x (pos j)) at n k t =
     (omega arith, omega arith, leb-true n 1152 (and_parts (eqb at (segs * 4096 + j * 1152)) _ b).1)
 
 pub same-blob-at : (i : ℕ) (r o : DiskPtr) → slot_is i o ≡ true → ((x : ℕ) → same_blob r (Blob x (pos i)) ≡ true) → same_blob r o ≡ true
-same-blob-at i r (Inline x) k f = absurd (let z : ◌≡◌ {A = ℕ} 0 1 = cc in omega arith)
-same-blob-at i r (Blob x (negsuc j)) k f = absurd (let z : ◌≡◌ {A = ℕ} 0 1 = cc in omega arith)
+same-blob-at i r (Inline x) k f = absurd (false≢true k)
+same-blob-at i r (Blob x (negsuc j)) k f = absurd (false≢true k)
 same-blob-at i r (Blob x (pos j)) k f = let e : j ≡ i = eqb-true j i k in rw e (f x)
 
 pub blob-home : (s : Segmented) (l : ℕ) (o : DiskPtr) (i j : ℕ) (x : Head) → LiveIndex (mem_of s.book) (heads_of s.book) l o (Some j) → x ≡ get_or (heads_of s.book) j x → slot_is i o ≡ true → (i < s.slots) × (x.place.at ≡ s.segs * 4096 + i * 1152) × (x.place.len ≤ 1152)
@@ -285,12 +285,12 @@ live-below segs slots a f mem (h ∷ hs) l x i t = at (live-below segs slots a f
     at rest (Blob y (pos j)) e = rw (e, and-false (eqb y x), and-false (eqb h.lsn l), and-false (is_live h.status)) rest
     at rest (Blob y (negsuc j)) e =
         let q : homed segs slots (Blob y (negsuc j)) h.place.at h.place.len ≡ true = rw e at here in
-        absurd (let z : ◌≡◌ {A = ℕ} 0 1 = cc in omega arith)
+        absurd (false≢true q)
 
 -- a pointer without a slot is no live blob's
 pub no_slot : (s : Segmented) (l : ℕ) (o : DiskPtr) → ((i : ℕ) → slot_is i o ≡ false) → blob_there (told s.book) l o ≡ false
 no_slot s l (Inline x) n = refl
-no_slot s l (Blob x (pos i)) n = let z : true ≡ false = sym (eq-eqb i i refl) ∙ n i in absurd (let y : ◌≡◌ {A = ℕ} 0 1 = cc in omega arith)
+no_slot s l (Blob x (pos i)) n = absurd (true≢false (sym (eq-eqb i i refl) ∙ n i))
 no_slot s l (Blob x (negsuc i)) n = ap is_some (live-below s.segs s.slots s.active s.fill (mem_of s.book) (heads_of s.book) l x i s.kept.lay)
 
 pub there-blob : (b : Book) (l : ℕ) (o : DiskPtr) (j : ℕ) → LiveIndex (mem_of b) (heads_of b) l o (Some j) → is_blob o ≡ true → blob_there (told b) l o ≡ true

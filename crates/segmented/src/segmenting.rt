@@ -10,7 +10,7 @@ ghost use Rattle.segmented.specs.Segments.{seg_means, empty_segmented, OnReady, 
 use crate::scans::{SEGMENT_LEN, lowest_page, seg_busy, slot_busy, slot_of, sparse_segment};
 use crate::segmented::Segmented;
 use book::{Book, Head, Place};
-use fault::{DiskPtr, LogOffset, PageId};
+use fault::{BlobPointer, DiskPtr, LogOffset, PageId};
 use logs::{
     CacheInfo, Event, HEADER_LEN, Kind, Log, LogFault, MAX_PAYLOAD, POSITION_END, Position,
     Reservation, Returned,
@@ -28,7 +28,7 @@ fn blob_at(lid: usize, i: usize) -> DiskPtr
     requires { i < 2 ^ 63 }
     ensures { result ≡ pointer.Blob lid (pos i) }
 {
-    DiskPtr::Blob(lid as LogOffset, i as i64)
+    DiskPtr::Blob(lid as LogOffset, i as BlobPointer)
 }
 
 impl Segmented {
@@ -48,7 +48,9 @@ impl Segmented {
 
     // Makes room for so many bytes and a message of the page, or says that there is none.
     fn make_ready(&mut self, pid: PageId, need: usize) -> Result<(), LogFault>
-        requires { (any_pending (told self.old.book) ≡ false) × ((32 ≤ need) × (need ≤ 4096)) }
+        requires quiet { any_pending (told self.old.book) ≡ false }
+        requires least { 32 ≤ need }
+        requires most { need ≤ 4096 }
         ensures { OnReady self.old self.new pid need result }
     {
         if self.book.next >= POSITION_END {
@@ -107,7 +109,8 @@ impl Segmented {
 
     // A pending message with its payload in the active segment.
     fn put_inline(&mut self, pid: PageId, kind: Kind, payload: &[u8]) -> Reservation
-        requires { (Able self.old (32 + length payload.now)) × (length payload.now ≤ 512) }
+        requires able { Able self.old (32 + length payload.now) }
+        requires short { length payload.now ≤ 512 }
         ensures { Put self.old self.new pid kind payload.now result }
     {
         let len = payload.len();
@@ -120,7 +123,9 @@ impl Segmented {
 
     // A pending message that points to a slot.
     fn put_pointer(&mut self, pid: PageId, kind: Kind, i: usize, len: usize) -> Reservation
-        requires { (Able self.old 32) × ((len ≤ 1152) × (i < self.old.slots)) }
+        requires able { Able self.old 32 }
+        requires short { len ≤ 1152 }
+        requires slot { i < self.old.slots }
         ensures put { Put self.old self.new pid kind (take len (drop (self.old.segs * 4096 + i * 1152) (mem_of self.old.book))) result }
         ensures same { (x : ℕ) → same_blob result.pointer (pointer.Blob x (pos i)) ≡ true }
     {
@@ -131,7 +136,10 @@ impl Segmented {
 
     // A pending message with its payload in a slot that none points to.
     fn put_blob(&mut self, pid: PageId, kind: Kind, payload: &[u8], i: usize) -> Reservation
-        requires { (Able self.old 32) × ((length payload.now ≤ 1152) × ((i < self.old.slots) × (list_any (in_slot i) (heads_of self.old.book) ≡ false))) }
+        requires able { Able self.old 32 }
+        requires short { length payload.now ≤ 1152 }
+        requires slot { i < self.old.slots }
+        requires vacant { list_any (in_slot i) (heads_of self.old.book) ≡ false }
         ensures { Put self.old self.new pid kind payload.now result }
     {
         let place = self.slot_place(i, payload.len());
@@ -146,7 +154,8 @@ impl Segmented {
         kind: Kind,
         payload: &[u8],
     ) -> Result<Reservation, LogFault>
-        requires { (any_pending (told self.old.book) ≡ false) × (length payload.now ≤ 512) }
+        requires quiet { any_pending (told self.old.book) ≡ false }
+        requires short { length payload.now ≤ 512 }
         ensures { OnReserve (seg_means self.old) (seg_means self.new) pid kind payload.now result }
     {
         self.make_ready(pid, HEADER_LEN + payload.len())?;
@@ -160,7 +169,8 @@ impl Segmented {
         kind: Kind,
         payload: &[u8],
     ) -> Result<Reservation, LogFault>
-        requires { (any_pending (told self.old.book) ≡ false) × (512 < length payload.now) }
+        requires quiet { any_pending (told self.old.book) ≡ false }
+        requires long { 512 < length payload.now }
         ensures { OnReserve (seg_means self.old) (seg_means self.new) pid kind payload.now result }
     {
         if payload.len() > MAX_PAYLOAD {
@@ -186,6 +196,7 @@ impl Segmented {
         let heads = Vec::with_capacity(heap, segs * SEGMENT_HEADERS)?;
         let mut mem = Vec::new(heap);
         mem.resize(segs * SEGMENT_LEN + slots * MAX_PAYLOAD, 0)?;
+        // Kept: here and on the tape; a function of three of these five fields would say less of where a log begins.
         let book = Book {
             number,
             stable: 0,

@@ -10,7 +10,7 @@ put_pointer-requires c =
     let i = c.args.i in
     let e = c.slot_place-place.ensures in
     let w : Overwritten s.book c.overwrite.new.self (s.segs * 4096 + i * 1152) c.args.payload.now = rw e.at at c.overwrite.ensures in
-    (over-able s _ _ c.args.payload.now 32 w refl (blob-room s i n c.requires.1.1.0 c.requires.1.0) (blob_apart s i n c.requires.1.0 c.requires.1.1.1) c.requires.0, (rw e.len c.requires.1.0, c.requires.1.1.0))
+    record { able = over-able s _ _ c.args.payload.now 32 w refl (blob-room s i n c.requires.slot c.requires.short) (blob_apart s i n c.requires.short c.requires.vacant) c.requires.able; short = rw e.len c.requires.short; slot = c.requires.slot }
 
 pub returns : goal.returns
 returns c =
@@ -19,4 +19,4 @@ returns c =
     let i = c.args.i in
     let e = c.slot_place-place.ensures in
     let w : Overwritten s.book c.overwrite.new.self (s.segs * 4096 + i * 1152) c.args.payload.now = rw e.at at c.overwrite.ensures in
-    over-put_on s _ c.put_pointer.new.self c.args.pid c.args.kind c.args.payload.now _ c.put_pointer.result w (blob-room s i n c.requires.1.1.0 c.requires.1.0) (blob_apart s i n c.requires.1.0 c.requires.1.1.1) (rw e.len at c.put_pointer.ensures.put)
+    over-put_on s _ c.put_pointer.new.self c.args.pid c.args.kind c.args.payload.now _ c.put_pointer.result w (blob-room s i n c.requires.slot c.requires.short) (blob_apart s i n c.requires.short c.requires.vacant) (rw e.len at c.put_pointer.ensures.put)

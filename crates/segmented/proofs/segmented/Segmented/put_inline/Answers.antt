@@ -8,8 +8,8 @@ pub put-requires : goal.put-requires
 put-requires c =
     let s = c.args.self.now in
     let n = length c.args.payload.now in
-    let h = c.requires.0 in
-    let m = c.requires.1 in
+    let h = c.requires.able in
+    let m = c.requires.short in
     let lid = c.next_lid-lid.ensures in
     let room : c.next_lid-lid.result + 32 + n ≤ length (mem_of s.book) = rw lid (inline_room s n h) in
     let apart : Apart (c.next_lid-lid.result + 32) n (heads_of s.book) = rw lid (inline_apart s n h) in
@@ -25,7 +25,7 @@ pub returns : goal.returns
 returns c =
     let s = c.args.self.now in
     let n = length c.args.payload.now in
-    let h = c.requires.0 in
+    let h = c.requires.able in
     let lid = c.next_lid-lid.ensures in
     let room : c.next_lid-lid.result + 32 + n ≤ length (mem_of s.book) = rw lid (inline_room s n h) in
     let apart : Apart (c.next_lid-lid.result + 32) n (heads_of s.book) = rw lid (inline_apart s n h) in

@@ -12,7 +12,7 @@ put_blob-requires c =
     let found : c.free_slot.result ≡ Some c.in_ok-i.i = search rules in
     let b : Picked (free_slot (heads_of s.book)) s.slots (Some c.in_ok-i.i) = rw found at c.free_slot.ensures in
     let p = swept s c.make_ready.new.self c.sweep.new.self 32 (omega arith) a c.sweep.ensures in
-    (p.able, (search rules, (rw p.slots b.0, slot_vacant s c.make_ready.new.self c.sweep.new.self 32 c.in_ok-i.i a c.sweep.ensures b.1)))
+    record { able = p.able; short = search rules; slot = rw p.slots b.0; vacant = slot_vacant s c.make_ready.new.self c.sweep.new.self 32 c.in_ok-i.i a c.sweep.ensures b.1 }
 
 pub returns : goal.returns
 returns c =
@@ -23,4 +23,4 @@ returns c =
     let b : Picked (free_slot (heads_of s.book)) s.slots (Some c.in_ok-i.i) = rw found at c.free_slot.ensures in
     let h : length c.args.payload.now ≤ 1152 = search rules in
     let p = swept s c.make_ready.new.self c.sweep.new.self 32 (omega arith) a.0 c.sweep.ensures in
-    reserved s c.sweep.new.self c.put_blob.new.self c.args.pid c.args.kind c.args.payload.now 32 (seg_fits s.segs s.slots s.active s.fill s.book n) c.put_blob.result c.requires.0 (fits-blob s.segs s.slots s.active s.fill s.book n true c.requires.1 h b.2 a.1) h p c.put_blob.ensures
+    reserved s c.sweep.new.self c.put_blob.new.self c.args.pid c.args.kind c.args.payload.now 32 (seg_fits s.segs s.slots s.active s.fill s.book n) c.put_blob.result c.requires.quiet (fits-blob s.segs s.slots s.active s.fill s.book n true c.requires.long h b.2 a.1) h p c.put_blob.ensures

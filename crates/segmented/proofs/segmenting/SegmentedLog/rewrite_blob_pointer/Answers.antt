@@ -29,7 +29,7 @@ put_pointer-requires c =
     let slot : c.slot_of.result ≡ Some c.in_ok-i.i = search rules in
     let b : SlotOf c.args.pointer (Some c.in_ok-i.i) = rw slot at c.slot_of.ensures in
     let w = blob-home s c.args.lsn c.args.pointer c.in_ok-i.i c.in_ok-j.j c.index-h.result.now h c.index-h.ensures b.1 in
-    (a.0.able, (w.2, rw a.0.slots w.0))
+    record { able = a.0.able; short = w.2; slot = rw a.0.slots w.0 }
 
 pub returns : goal.returns
 returns c =
