@@ -1,23 +1,25 @@
 -- From a book's calls to a log's. Assumes nothing.
 use Rattle.std.proofs.Common.{◌≡◌, ℕ, ℤ, ◌+◌, ◌^◌, ◌<◌, ◌≤◌, Bool, true, false, not, eqb, List, [], ◌∷◌, ◌++◌, length, take, drop, is_some, None, Ok, Err, vec_items, Result, sym, refl, ap, ◌∙◌, subst, arith}
-use Rattle.std.proofs.lemmas.List.{take-append-le, drop-append-le, drop_at, take_all, length-drop, length_push}
+use Rattle.std.proofs.lemmas.List.{take-append-le, drop-append-le, drop_at, take_all, length-drop}
 use Rattle.logs.specs.declared.messages.Kind.{Kind}
 use Rattle.fault.specs.declared.disk_pointer.DiskPtr.{DiskPtr}
 use Rattle.fault.specs.declared.disk_pointer.DiskPtr.TheVariants.{Inline, Blob}
 use Rattle.logs.specs.declared.messages.CacheInfo.{CacheInfo}
 use Rattle.logs.specs.declared.reservation.Reservation.{Reservation}
 use Rattle.logs.specs.declared.reservation.Returned.{Returned}
-use Rattle.logs.specs.Meaning.{Message, pending, is_live, is_blob, live_at, any_pending}
+use Rattle.logs.specs.Meaning.{Message, is_live, live_at, any_pending}
 use Rattle.logs.specs.Clauses.{fresh, Reserved, OnSettle, Marked, blob_there}
-use Rattle.logs.proofs.Laws.{both_no}
 use Rattle.logs.specs.declared.messages.Event.{Event}
 use Rattle.book.specs.declared.head.Head.{Head}
 use Rattle.book.specs.declared.book.Book.{Book}
-use Rattle.logs.specs.Meaning.{state_of}
 use Rattle.book.specs.Heads.{message, messages, bare, Ranked, inlined}
 use Rattle.book.specs.Books.{heads_of, mem_of, told, book_means, Kin, BookSettle, Marks, new_head, Appended, Extended}
-use Rattle.book.proofs.Headers.{both_0, both_1, both_yes, is-ranked, messages_push, messages_below, sheds-none}
+use Rattle.book.proofs.Headers.{span, is-ranked, messages_push, messages_below, sheds-none}
 use Rattle.book.proofs.Pages.{kin_self}
+use Rattle.std.proofs.lemmas.Bool.{false≢true, and_from, and_parts}
+use Rattle.std.proofs.Math.Bool.{and-false}
+use Rattle.logs.specs.declared.messages.Status.TheVariants.{Pending}
+use Rattle.fault.specs.Pointers.{is_blob}
 
 -- what does not depend on states
 pub length-bare : (hs : List Head) → length (bare hs) ≡ length hs
@@ -34,9 +36,6 @@ kin-length {b = b} {c = c} k = sym (length-bare (heads_of c)) ∙ ap length k.he
 pub kin-inlined : {b c : Book} → Kin b c → inlined (heads_of b) ≡ true → inlined (heads_of c) ≡ true
 kin-inlined {b = b} {c = c} k t = sym (inlined-bare (heads_of c)) ∙ ap inlined k.heads ∙ inlined-bare (heads_of b) ∙ t
 
-pub kin_counted : {b c : Book} → Kin b c → b.next ≡ length (heads_of b) + 1 → c.next ≡ length (heads_of c) + 1
-kin_counted {b = b} {c = c} k e = let l = kin-length k in omega (arith, k.next, l)
-
 pub settle-kin : (b c : Book) (r : Reservation) (s : Event) (x : Result Unit Returned) → BookSettle b c r s x → Kin b c
 settle-kin b c r s (Ok u) h = h.kin
 settle-kin b c r s (Err e) h = let P : Book → Type 0 = λ y. Kin b y in subst P (sym h.0) (kin_self b)
@@ -52,16 +51,16 @@ module _ (F : Book → ℕ → Bool) (G : Book → Bool) where
 -- no message is a blob
 live-inlined : (mem : List ℕ) (hs : List Head) (l x : ℕ) (i : ℤ) → inlined hs ≡ true → live_at (messages mem hs) l (Blob x i) ≡ None
 live-inlined mem [] l x i t = refl
-live-inlined mem (h ∷ hs) l x i t = at (live-inlined mem hs l x i (both_1 (not (is_blob h.pointer)) _ t)) h.pointer refl
+live-inlined mem (h ∷ hs) l x i t = at (live-inlined mem hs l x i (and_parts (not (is_blob h.pointer)) _ t).1) h.pointer refl
   where
     plain : not (is_blob h.pointer) ≡ true
-    plain = both_0 (not (is_blob h.pointer)) _ t
+    plain = (and_parts (not (is_blob h.pointer)) _ t).0
 
     at : live_at (messages mem hs) l (Blob x i) ≡ None → (o : DiskPtr) → h.pointer ≡ o → live_at (messages mem (h ∷ hs)) l (Blob x i) ≡ None
-    at rest (Inline y) e = rw (e, both_no (eqb h.lsn l), both_no (is_live (state_of h.status))) rest
+    at rest (Inline y) e = rw (e, and-false (eqb h.lsn l), and-false (is_live h.status)) rest
     at rest (Blob y j) e =
         let q : not (is_blob (Blob y j)) ≡ true = rw e at plain in
-        absurd (let z : ◌≡◌ {A = ℕ} 0 1 = cc in omega arith)
+        absurd (false≢true q)
 
 pub no_blob : (mem : List ℕ) (hs : List Head) (l : ℕ) (o : DiskPtr) → inlined hs ≡ true → blob_there (messages mem hs) l o ≡ false
 no_blob mem hs l (Inline x) t = refl
@@ -76,21 +75,21 @@ take-drop-grown at len xs ys h =
 
 pub messages-grown : (lo next : ℕ) (xs ys : List ℕ) (hs : List Head) → Ranked lo next (length xs) hs → messages (xs ++ ys) hs ≡ messages xs hs
 messages-grown lo next xs ys [] t = refl
-messages-grown lo next xs ys (h ∷ hs) t = rw (take-drop-grown h.at h.len xs ys t.2, messages-grown h.lsn next xs ys hs t.4)
+messages-grown lo next xs ys (h ∷ hs) t = rw (take-drop-grown h.place.at h.place.len xs ys t.2, messages-grown h.lsn next xs ys hs t.4)
 
 pub inlined_push : (hs : List Head) (x : Head) → is_blob x.pointer ≡ false → inlined hs ≡ true → inlined (hs ++ (x ∷ [])) ≡ true
 inlined_push [] x e t = rw e refl
-inlined_push (h ∷ hs) x e t = both_yes (not (is_blob h.pointer)) _ (both_0 (not (is_blob h.pointer)) _ t) (inlined_push hs x e (both_1 (not (is_blob h.pointer)) _ t))
+inlined_push (h ∷ hs) x e t = and_from (not (is_blob h.pointer)) _ (and_parts (not (is_blob h.pointer)) _ t).0 (inlined_push hs x e (and_parts (not (is_blob h.pointer)) _ t).1)
 
 module _ (F : Book → ℕ → Bool) (G : Book → Bool) (b c d : Book) (p : ℕ) (k : Kind) (bytes : List ℕ) (o : DiskPtr) (r : Reservation)
-    (at : ℕ) (w : at ≡ length (mem_of b)) (e : Extended b c bytes) (a : Appended c d p k o at (length bytes) r) where
-  new_told : told d ≡ told b ++ (fresh p k bytes (length bytes + 32) r pending ∷ [])
+    (at : ℕ) (w : at ≡ length (mem_of b)) (e : Extended b c bytes) (a : Appended c d p k o (span at (length bytes)) r) where
+  new_told : told d ≡ told b ++ (fresh p k bytes (length bytes + 32) r Pending ∷ [])
   new_told =
-      let x = new_head c.next p k o at (length bytes) in
+      let x = new_head c.next p k o (span at (length bytes)) in
       let q : mem_of d ≡ mem_of b ++ bytes = ap vec_items a.mem ∙ e.mem in
       let g : heads_of d ≡ heads_of b ++ (x ∷ []) = a.heads ∙ ap (λ v. vec_items v ++ (x ∷ [])) e.heads in
       let pay : take (length bytes) (drop at (mem_of b ++ bytes)) ≡ bytes = ap (take (length bytes)) (drop_at (mem_of b) bytes at (sym w)) ∙ take_all (length bytes) bytes (omega arith) in
-      let same : message (mem_of b ++ bytes) x ≡ fresh p k bytes (length bytes + 32) r pending = rw (pay, a.lsn, a.pointer) refl in
+      let same : message (mem_of b ++ bytes) x ≡ fresh p k bytes (length bytes + 32) r Pending = rw (pay, a.lsn, a.pointer) refl in
       ap (λ (m : List ℕ). messages m (heads_of d)) q ∙ ap (messages (mem_of b ++ bytes)) g ∙ messages_push (mem_of b ++ bytes) (heads_of b) x
       ∙ ap (λ (ms : List Message). ms ++ (message (mem_of b ++ bytes) x ∷ [])) (messages-grown 0 b.next (mem_of b) bytes (heads_of b) (is-ranked 0 b.next (length (mem_of b)) (heads_of b) b.ranks))
       ∙ ap (λ (m : Message). told b ++ (m ∷ [])) same
@@ -115,16 +114,3 @@ module _ (F : Book → ℕ → Bool) (G : Book → Bool) (b c d : Book) (p : ℕ
         after = new_told;
         newer = rw l (messages_below 0 b.next (length (mem_of b)) (mem_of b) (heads_of b) (is-ranked 0 b.next (length (mem_of b)) (heads_of b) b.ranks));
       }
-
-  pub tape_inlined : is_blob o ≡ false → inlined (heads_of b) ≡ true → inlined (heads_of d) ≡ true
-  tape_inlined f t =
-      let x = new_head c.next p k o at (length bytes) in
-      let g : heads_of d ≡ heads_of b ++ (x ∷ []) = a.heads ∙ ap (λ v. vec_items v ++ (x ∷ [])) e.heads in
-      rw g (inlined_push (heads_of b) x f t)
-
-  pub tape_counted : b.next ≡ length (heads_of b) + 1 → d.next ≡ length (heads_of d) + 1
-  tape_counted f =
-      let x = new_head c.next p k o at (length bytes) in
-      let g : heads_of d ≡ heads_of b ++ (x ∷ []) = a.heads ∙ ap (λ v. vec_items v ++ (x ∷ [])) e.heads in
-      let l : length (heads_of d) ≡ length (heads_of b) + 1 = ap length g ∙ length_push (heads_of b) x in
-      omega (arith, a.next, e.next)

@@ -4,11 +4,12 @@ use Rattle.fault.specs.declared.disk_pointer.DiskPtr.{DiskPtr}
 use Rattle.logs.specs.declared.messages.CacheInfo.{CacheInfo}
 use Rattle.logs.specs.declared.reservation.Reservation.{Reservation}
 use Rattle.logs.specs.declared.reservation.Returned.{Returned}
-use Rattle.logs.specs.Meaning.{Message, Meaning, state_of, met, pending, meets, any_pending, is_live, is_pending, same_ptr, live_at, pending_at, settle, mark}
+use Rattle.logs.specs.Meaning.{Message, Meaning, met, any_pending, is_live, is_pending, same_ptr, live_at, pending_at, settle, mark}
 use Rattle.logs.specs.Clauses.{NotTaken}
 use Rattle.logs.specs.declared.messages.Status.{Status}
-use Rattle.logs.specs.declared.messages.Status.TheVariants as status
+use Rattle.logs.specs.declared.messages.Status.TheVariants.{Pending}
 use Rattle.book.specs.declared.head.Head.{Head}
+use Rattle.book.specs.declared.head.Place.{Place}
 use Rattle.logs.specs.declared.messages.Kind.{Kind}
 use Rattle.book.specs.declared.book.Book.{Book}
 use Rattle.logs.specs.declared.messages.Event.{Event}
@@ -30,11 +31,11 @@ book_means F G b = record { number = b.number; messages = told b; fits = F b; fi
 
 abbrev pub LiveIndex : List ℕ → List Head → ℕ → DiskPtr → Option ℕ → Type 0
 LiveIndex mem hs l o None = live_at (messages mem hs) l o ≡ None
-LiveIndex mem hs l o (Some i) = (i < length hs) × ((d : Head) → (is_live (state_of (get_or hs i d).status) ≡ true) × ((get_or hs i d).lsn ≡ l) × (same_ptr (get_or hs i d).pointer o ≡ true) × (live_at (messages mem hs) l o ≡ Some (message mem (slice_index_or hs i d))))
+LiveIndex mem hs l o (Some i) = (i < length hs) × ((d : Head) → (is_live (get_or hs i d).status ≡ true) × ((get_or hs i d).lsn ≡ l) × (same_ptr (get_or hs i d).pointer o ≡ true) × (live_at (messages mem hs) l o ≡ Some (message mem (slice_index_or hs i d))))
 
 abbrev pub PendingIndex : List ℕ → List Head → ℕ → DiskPtr → Option ℕ → Type 0
 PendingIndex mem hs l o None = pending_at (messages mem hs) l o ≡ false
-PendingIndex mem hs l o (Some i) = (i < length hs) × (pending_at (messages mem hs) l o ≡ true) × ((d : Head) → (is_pending (state_of (get_or hs i d).status) ≡ true) × ((get_or hs i d).lsn ≡ l) × (same_ptr (get_or hs i d).pointer o ≡ true))
+PendingIndex mem hs l o (Some i) = (i < length hs) × (pending_at (messages mem hs) l o ≡ true) × ((d : Head) → (is_pending (get_or hs i d).status ≡ true) × ((get_or hs i d).lsn ≡ l) × (same_ptr (get_or hs i d).pointer o ≡ true))
 
 -- only the states of messages may differ
 pub record Kin (b c : Book) : Type 0 where
@@ -61,7 +62,7 @@ pub record Settles (b c : Book) (r : Reservation) (e : Event) : Type 0 where
   pub kin : Kin b c
   pub mine : r.log ≡ b.number
   pub there : pending_at (told b) r.lsn r.pointer ≡ true
-  pub after : told c ≡ settle (meets pending e) r.lsn r.pointer (told b)
+  pub after : told c ≡ settle (met Pending e) r.lsn r.pointer (told b)
 
 abbrev pub BookSettle : Book → Book → Reservation → Event → Result Unit Returned → Type 0
 BookSettle b c r e (Ok u) = Settles b c r e
@@ -79,22 +80,22 @@ pub record Raised (b c : Book) (l : ℕ) : Type 0 where
   pub mem : c.mem ≡ b.mem
 
 -- one more message may be added, whose payload lies there
-pub record Ready (b : Book) (at len : ℕ) : Type 0 where
+pub record Ready (b : Book) (place : Place) : Type 0 where
   pub quiet : any_pending (told b) ≡ false
   pub room : vec_len b.heads < vec_capacity b.heads
-  pub within : at + len ≤ length (mem_of b)
-  pub small : len ≤ 1152
+  pub within : place.at + place.len ≤ length (mem_of b)
+  pub small : place.len ≤ 1152
   pub low : b.next < 2 ^ 62
 
-abbrev pub new_head : ℕ → ℕ → Kind → DiskPtr → ℕ → ℕ → Head
-new_head l p k o at len = record { lsn = l; pointer = o; page = p; kind = k; at = at; len = len; status = status.Pending }
+abbrev pub new_head : ℕ → ℕ → Kind → DiskPtr → Place → Head
+new_head l p k o place = record { lsn = l; pointer = o; page = p; kind = k; place = place; status = Pending }
 
-pub record Appended (b c : Book) (p : ℕ) (k : Kind) (o : DiskPtr) (at len : ℕ) (r : Reservation) : Type 0 where
+pub record Appended (b c : Book) (p : ℕ) (k : Kind) (o : DiskPtr) (place : Place) (r : Reservation) : Type 0 where
   pub number : c.number ≡ b.number
   pub stable : c.stable ≡ b.stable
   pub next : c.next ≡ b.next + 1
   pub mem : c.mem ≡ b.mem
-  pub heads : heads_of c ≡ heads_of b ++ (new_head b.next p k o at len ∷ [])
+  pub heads : heads_of c ≡ heads_of b ++ (new_head b.next p k o place ∷ [])
   pub cap : vec_capacity c.heads ≡ vec_capacity b.heads
   pub mine : r.log ≡ b.number
   pub lsn : r.lsn ≡ b.next

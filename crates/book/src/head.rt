@@ -1,14 +1,20 @@
 use fault::{DiskPtr, PageId};
 use logs::{Kind, Position, Status};
 
-// A message of a log: its payload is the `len` bytes at `at` of the log's memory.
+// Where a payload lies: so many bytes of the log's memory, from an offset on.
+#[derive(Clone, Copy)]
+pub struct Place {
+    pub at: usize,
+    pub len: usize,
+}
+
+// A message of a log, and where its payload lies.
 #[derive(Clone, Copy)]
 pub struct Head {
     pub lsn: Position,
     pub pointer: DiskPtr,
     pub page: PageId,
     pub kind: Kind,
-    pub at: usize,
-    pub len: usize,
+    pub place: Place,
     pub status: Status,
 }

@@ -7,4 +7,4 @@ pub mod booking;
 pub mod head;
 
 pub use book::Book;
-pub use head::Head;
+pub use head::{Head, Place};

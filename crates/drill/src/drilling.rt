@@ -14,19 +14,12 @@ pub struct Drill<L> {
     pub tally: Tally,
 }
 
-// Ends a reservation that no log takes.
+// Ends a reservation that should not have been given.
 fn give_up(reservation: Reservation) {
     let log = reservation.log();
     let lsn = reservation.lsn();
     let pointer = reservation.pointer();
     reservation.spend(log, lsn, pointer).unwrap();
-}
-
-// Why a reservation was given back, which ends here.
-pub fn refusal(returned: Returned) -> LogFault {
-    let Returned { reservation, fault } = returned;
-    give_up(reservation);
-    fault
 }
 
 // The bytes of a payload: each differs from the one before.
@@ -76,10 +69,10 @@ fn refuses_strangers<L: Log>(log: &mut L, reservation: &Reservation) -> bool {
     let pointer = reservation.pointer();
     let another = log
         .complete(Reservation::new(number ^ 1, lsn, pointer))
-        .map_err(refusal);
+        .map_err(Returned::give_up);
     let later = log
         .abort(Reservation::new(number, lsn ^ 1, pointer))
-        .map_err(refusal);
+        .map_err(Returned::give_up);
     let expected = Err(LogFault::NotPending(pointer));
     another == expected && later == expected
 }
@@ -148,7 +141,7 @@ impl<L: Log> Drill<L> {
         let alone = refuses_meanwhile(&mut self.log, plain.page, &reservation)
             && refuses_strangers(&mut self.log, &reservation);
         let (taken, status) = self.settle(reservation);
-        let taken = taken.map_err(refusal).is_ok();
+        let taken = taken.map_err(Returned::give_up).is_ok();
         self.tally.expect(same && alone && taken);
         self.model.add(Plain { status, ..plain }, shape)
     }

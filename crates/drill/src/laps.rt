@@ -1,10 +1,9 @@
 // A stopwatch over a log: how long reserve with complete takes, and a read, when so much of its room is taken.
 ghost use Rattle.std.specs.Prelude.{◌<◌};
 
-use crate::drilling::refusal;
 use crate::random::Random;
 use fault::PageId;
-use logs::{CacheInfo, Kind, Log, LogFault};
+use logs::{CacheInfo, Kind, Log, LogFault, Returned};
 use std::io;
 use std::time::Instant;
 
@@ -32,13 +31,8 @@ impl Lap {
 // The entry of a message of 100 bytes that is live now.
 fn write<L: Log>(log: &mut L, page: PageId) -> Result<CacheInfo, LogFault> {
     let reservation = log.reserve(page, Kind::Node, &[7u8; 100])?;
-    let entry = CacheInfo {
-        ts: 0,
-        lsn: reservation.lsn(),
-        pointer: reservation.pointer(),
-        log_size: 0,
-    };
-    log.complete(reservation).map_err(refusal)?;
+    let entry = reservation.entry();
+    log.complete(reservation).map_err(Returned::give_up)?;
     Ok(entry)
 }
 

@@ -1,4 +1,6 @@
 -- What the calls of a log leave of the live messages. Assumes nothing.
+use Rattle.std.proofs.lemmas.Option.{none-some}
+use Rattle.std.proofs.lemmas.Bool.{true≢false, false≢true, or_from, or_parts}
 use Rattle.std.proofs.Common.{◌≡◌, ℕ, ◌<◌, Bool, true, false, eqb, List, [], ◌∷◌, ◌++◌, Some, None, Option, sym, refl, ap, ◌∙◌, arith, eq-eqb, ne_eqb, eqb-true}
 use Rattle.std.proofs.lemmas.Cmp.{int_eq_equiv}
 use Rattle.logs.specs.declared.messages.Kind.{Kind}
@@ -10,36 +12,24 @@ use Rattle.logs.specs.declared.log_fault.LogFault.TheVariants.{Bytes, Full, Pend
 use Rattle.logs.specs.declared.messages.Event.{Event}
 use Rattle.logs.specs.declared.messages.Event.TheVariants.{Complete, Abort}
 use Rattle.logs.specs.declared.reservation.Reservation.{Reservation}
-use Rattle.logs.specs.Meaning.{Meaning, Message, State, pending, live, dead, cancelled, meets, is_pending, is_live, is_done, same_ptr, keep_if, lives_of, unnamed, both, either, is_at, or_else, becomes, with_state, any_pending, live_at, pending_at, settle, named, mark, Sheds, none, kept, shed, Below}
+use Rattle.logs.specs.Meaning.{Meaning, Message, is_pending, is_live, is_done, same_ptr, lives_of, unnamed, is_at, becomes, with_state, any_pending, live_at, pending_at, settle, named, mark, Sheds, none, kept, shed, Below, met}
 use Rattle.logs.specs.Clauses.{fresh, Reserved, Settled, NotTaken, Written, Same}
-
-pub either_left : (a b : Bool) → either a b ≡ false → a ≡ false
-either_left true b h = h
-either_left false b h = refl
-
-pub either_right : (a b : Bool) → either a b ≡ false → b ≡ false
-either_right true b h = absurd (let z : ◌≡◌ {A = ℕ} 0 1 = cc in omega arith)
-either_right false b h = h
+use Rattle.std.proofs.lemmas.List.{append-nil}
+use Rattle.std.proofs.lemmas.List.Elements.{filter-append}
+use Rattle.std.proofs.lemmas.List.Folds.{list_any-append}
+use Rattle.std.proofs.Math.Bool.{and-false, or-true}
+use Rattle.std.specs.Prelude.{◌&&◌, ◌||◌, cond}
+use Rattle.logs.specs.declared.messages.Status.TheVariants as status
+use Rattle.logs.specs.declared.messages.Status.{Status}
 
 pub eqb_refl : (n : ℕ) → eqb n n ≡ true
 eqb_refl n = eq-eqb n n refl
 
-pub both_no : (a : Bool) → both a false ≡ false
-both_no true = refl
-both_no false = refl
-
-pub either_yes : (a : Bool) → either a true ≡ true
-either_yes true = refl
-either_yes false = refl
-
-either-none : (a b : Bool) → a ≡ false → b ≡ false → either a b ≡ false
-either-none a b h k = rw h k
-
-pub done_dull : (s : State) → is_done s ≡ true → is_live s ≡ false
-done_dull pending h = refl
-done_dull live h = absurd (let z : ◌≡◌ {A = ℕ} 0 1 = cc in omega arith)
-done_dull dead h = refl
-done_dull cancelled h = refl
+pub done_dull : (s : Status) → is_done s ≡ true → is_live s ≡ false
+done_dull status.Pending h = refl
+done_dull status.Live h = absurd (false≢true h)
+done_dull status.Dead h = refl
+done_dull status.Cancelled h = refl
 
 pub sheds-live : {ms ks : List Message} → Sheds ms ks → (l : ℕ) (o : DiskPtr) → live_at ks l o ≡ live_at ms l o
 sheds-live none l o = refl
@@ -48,8 +38,8 @@ sheds-live (shed {m = m} h s) l o = rw (done_dull m.state h) (sheds-live s l o)
 
 sheds-quiet : {ms ks : List Message} → Sheds ms ks → any_pending ms ≡ false → any_pending ks ≡ false
 sheds-quiet none q = q
-sheds-quiet (kept s) q = either-none _ _ (either_left _ _ q) (sheds-quiet s (either_right _ _ q))
-sheds-quiet (shed h s) q = sheds-quiet s (either_right _ _ q)
+sheds-quiet (kept s) q = or_from _ _ (or_parts _ _ q).0 (sheds-quiet s (or_parts _ _ q).1)
+sheds-quiet (shed h s) q = sheds-quiet s (or_parts _ _ q).1
 
 sheds_below : {ms ks : List Message} (l : ℕ) → Sheds ms ks → Below l ms → Below l ks
 sheds_below l none b = b
@@ -66,48 +56,48 @@ same_self (Blob x i) = rw (eqb_refl x) (int_eq_equiv.refl i)
 pub at_self : (m : Message) → is_at m.lsn m.pointer m ≡ true
 at_self m = rw (eqb_refl m.lsn) (same_self m.pointer)
 
-or_step : (b : Bool) (m : Message) (r s : Option Message) (x : Message) → (r ≡ Some x → s ≡ Some x) → or_else b m r ≡ Some x → or_else b m s ≡ Some x
+or_step : (b : Bool) (m : Message) (r s : Option Message) (x : Message) → (r ≡ Some x → s ≡ Some x) → (cond b (Some m) r) ≡ Some x → (cond b (Some m) s) ≡ Some x
 or_step true m r s x f h = h
 or_step false m r s x f h = f h
 
 live-append : (ms ys : List Message) (l : ℕ) (o : DiskPtr) (x : Message) → live_at ms l o ≡ Some x → live_at (ms ++ ys) l o ≡ Some x
-live-append [] ys l o x h = absurd (let z : ◌≡◌ {A = ℕ} 0 1 = cc in omega arith)
+live-append [] ys l o x h = absurd (none-some x h)
 live-append (m ∷ ms) ys l o x h = or_step _ m _ _ x (live-append ms ys l o x) h
 
-live-fresh : (ks : List Message) (m : Message) → m.state ≡ live → Below m.lsn ks → live_at (ks ++ (m ∷ [])) m.lsn m.pointer ≡ Some m
+live-fresh : (ks : List Message) (m : Message) → m.state ≡ status.Live → Below m.lsn ks → live_at (ks ++ (m ∷ [])) m.lsn m.pointer ≡ Some m
 live-fresh [] m h b = rw (h, at_self m)
-live-fresh (k ∷ ks) m h b = rw (not_at m.lsn m.pointer k b.0, both_no (is_live k.state)) (live-fresh ks m h b.1)
+live-fresh (k ∷ ks) m h b = rw (not_at m.lsn m.pointer k b.0, and-false (is_live k.state)) (live-fresh ks m h b.1)
 
 live-dull : (ks : List Message) (m : Message) (l : ℕ) (o : DiskPtr) → is_live m.state ≡ false → live_at (ks ++ (m ∷ [])) l o ≡ live_at ks l o
 live-dull [] m l o h = rw h
 live-dull (k ∷ ks) m l o h = rw (live-dull ks m l o h)
 
 quiet-append : (ks : List Message) (m : Message) → any_pending ks ≡ false → is_pending m.state ≡ false → any_pending (ks ++ (m ∷ [])) ≡ false
-quiet-append [] m q h = either-none _ _ h refl
-quiet-append (k ∷ ks) m q h = either-none _ _ (either_left _ _ q) (quiet-append ks m (either_right _ _ q) h)
+quiet-append [] m q h = or_from _ _ h refl
+quiet-append (k ∷ ks) m q h = or_from _ _ (or_parts _ _ q).0 (quiet-append ks m (or_parts _ _ q).1 h)
 
-settle-append : (s : State) (ks : List Message) (m : Message) → any_pending ks ≡ false → m.state ≡ pending → settle s m.lsn m.pointer (ks ++ (m ∷ [])) ≡ ks ++ (with_state s m ∷ [])
+settle-append : (s : Status) (ks : List Message) (m : Message) → any_pending ks ≡ false → m.state ≡ status.Pending → settle s m.lsn m.pointer (ks ++ (m ∷ [])) ≡ ks ++ (with_state s m ∷ [])
 settle-append s [] m q h = rw (h, at_self m)
-settle-append s (k ∷ ks) m q h = rw (either_left (is_pending k.state) (any_pending ks) q, settle-append s ks m (either_right (is_pending k.state) (any_pending ks) q) h)
+settle-append s (k ∷ ks) m q h = rw ((or_parts (is_pending k.state) (any_pending ks) q).0, settle-append s ks m (or_parts (is_pending k.state) (any_pending ks) q).1 h)
 
-pending-there : (ks : List Message) (m : Message) → m.state ≡ pending → pending_at (ks ++ (m ∷ [])) m.lsn m.pointer ≡ true
+pending-there : (ks : List Message) (m : Message) → m.state ≡ status.Pending → pending_at (ks ++ (m ∷ [])) m.lsn m.pointer ≡ true
 pending-there [] m h = rw (h, at_self m)
-pending-there (k ∷ ks) m h = rw (pending-there ks m h, either_yes (both (is_pending k.state) (is_at m.lsn m.pointer k)))
+pending-there (k ∷ ks) m h = rw (pending-there ks m h, or-true (is_pending k.state && is_at m.lsn m.pointer k))
 
 -- a live message is older than what is above all
 pub live_below : (ms : List Message) (l : ℕ) (o : DiskPtr) (n : ℕ) (x : Message) → Below n ms → live_at ms l o ≡ Some x → l < n
-live_below [] l o n x b h = absurd (let z : ◌≡◌ {A = ℕ} 0 1 = cc in omega arith)
+live_below [] l o n x b h = absurd (none-some x h)
 live_below (m ∷ ms) l o n x b h = at (live_below ms l o n x b.1) (is_live m.state) (eqb m.lsn l) refl (same_ptr m.pointer o) h
   where
-    at : (live_at ms l o ≡ Some x → l < n) → (a : Bool) (e : Bool) → eqb m.lsn l ≡ e → (f : Bool) → or_else (both a (both e f)) m (live_at ms l o) ≡ Some x → l < n
+    at : (live_at ms l o ≡ Some x → l < n) → (a : Bool) (e : Bool) → eqb m.lsn l ≡ e → (f : Bool) → (cond (a && (e && f)) (Some m) (live_at ms l o)) ≡ Some x → l < n
     at tail true true q true k = omega (arith, eqb-true m.lsn l q, b.0)
     at tail true true q false k = tail k
     at tail true false q f k = tail k
     at tail false e q f k = tail k
 
 module _ {M N O : Meaning} {p : ℕ} {k : Kind} {bytes : List ℕ} {fit : Bool} {r : Reservation} (a : Reserved M N p k bytes fit r) where
-  after-settle : (e : Event) → Settled N O r e → O.messages ≡ a.kept ++ (fresh p k bytes a.size r (meets pending e) ∷ [])
-  after-settle e b = b.after ∙ ap (settle (meets pending e) r.lsn r.pointer) a.after ∙ settle-append (meets pending e) a.kept (fresh p k bytes a.size r pending) (sheds-quiet a.sheds a.quiet) refl
+  after-settle : (e : Event) → Settled N O r e → O.messages ≡ a.kept ++ (fresh p k bytes a.size r (met status.Pending e) ∷ [])
+  after-settle e b = b.after ∙ ap (settle (met status.Pending e) r.lsn r.pointer) a.after ∙ settle-append (met status.Pending e) a.kept (fresh p k bytes a.size r status.Pending) (sheds-quiet a.sheds a.quiet) refl
 
   pub written : Settled N O r Complete → Written M O p k bytes r
   written b =
@@ -115,68 +105,59 @@ module _ {M N O : Meaning} {p : ℕ} {k : Kind} {bytes : List ℕ} {fit : Bool} 
       record {
         size = a.size;
         grows = λ l o m h. rw e (live-append a.kept _ l o m (sheds-live a.sheds l o ∙ h));
-        there = rw e (live-fresh a.kept (fresh p k bytes a.size r live) refl (sheds_below r.lsn a.sheds a.newer));
+        there = rw e (live-fresh a.kept (fresh p k bytes a.size r status.Live) refl (sheds_below r.lsn a.sheds a.newer));
         newer = λ l o m h. live_below M.messages l o r.lsn m a.newer h;
-        quiet = rw e (quiet-append a.kept (fresh p k bytes a.size r live) (sheds-quiet a.sheds a.quiet) refl);
+        quiet = rw e (quiet-append a.kept (fresh p k bytes a.size r status.Live) (sheds-quiet a.sheds a.quiet) refl);
       }
 
   pub undone : Settled N O r Abort → Same M O
   undone b =
       let e = after-settle Abort b in
       record {
-        live_same = λ l o. rw e (live-dull a.kept (fresh p k bytes a.size r cancelled) l o refl ∙ sheds-live a.sheds l o);
-        quiet = λ q. rw e (quiet-append a.kept (fresh p k bytes a.size r cancelled) (sheds-quiet a.sheds a.quiet) refl);
+        live_same = λ l o. rw e (live-dull a.kept (fresh p k bytes a.size r status.Cancelled) l o refl ∙ sheds-live a.sheds l o);
+        quiet = λ q. rw e (quiet-append a.kept (fresh p k bytes a.size r status.Cancelled) (sheds-quiet a.sheds a.quiet) refl);
       }
 
 module _ {M N : Meaning} {p : ℕ} {k : Kind} {bytes : List ℕ} {fit : Bool} {r : Reservation} (a : Reserved M N p k bytes fit r) where
   pub there : pending_at N.messages r.lsn r.pointer ≡ true
-  there = rw a.after (pending-there a.kept (fresh p k bytes a.size r pending) refl)
+  there = rw a.after (pending-there a.kept (fresh p k bytes a.size r status.Pending) refl)
 
   pub mine : r.log ≡ N.number
   mine = a.mine ∙ sym a.number
 
 -- a reservation is taken by the log that gave it
 pub taken : (N : Meaning) (r : Reservation) → pending_at N.messages r.lsn r.pointer ≡ true → r.log ≡ N.number → (f : LogFault) → NotTaken N.number N.messages r f → ⊥
-taken N r t m (NotPending o) h =
-    let z : ◌≡◌ {A = Bool} true false = sym t ∙ h.1 m in
-    let y : ◌≡◌ {A = ℕ} 0 1 = cc in
-    omega arith
+taken N r t m (NotPending o) h = true≢false (sym t ∙ h.1 m)
 taken N r t m (Bytes e) h = h
 taken N r t m (Full q) h = h
 taken N r t m (Pending q) h = h
 taken N r t m (NoMessage q o) h = h
 taken N r t m (OtherPage q o) h = h
 
-pub same_refl : (M N : Meaning) → N ≡ M → Same M N
-same_refl M N e = record { live_same = λ l o. rw e; quiet = λ q. rw e q }
-
-becomes-same : (b : Bool) (s : State) (m : Message) → b ≡ false → becomes b s m ≡ m
-becomes-same b s m h = rw h
-
 -- what is not named, or is another page's, stays
-pub mark_keeps : (p : ℕ) (es : List CacheInfo) (ms : List Message) (l : ℕ) (o : DiskPtr) (x : Message) → live_at ms l o ≡ Some x → both (eqb x.page p) (named es x) ≡ false → live_at (mark p es ms) l o ≡ Some x
+pub mark_keeps : (p : ℕ) (es : List CacheInfo) (ms : List Message) (l : ℕ) (o : DiskPtr) (x : Message) → live_at ms l o ≡ Some x → (eqb x.page p && named es x) ≡ false → live_at (mark p es ms) l o ≡ Some x
 mark_keeps p es [] l o x h n = h
 mark_keeps p es (m ∷ ms) l o x h n = at (λ k. mark_keeps p es ms l o x k n) (is_live m.state) refl (is_at l o m) refl h
   where
-    dull : is_live m.state ≡ true → is_at l o m ≡ false → live_at (mark p es ms) l o ≡ Some x → (c : Bool) → live_at (becomes c dead m ∷ mark p es ms) l o ≡ Some x
+    dull : is_live m.state ≡ true → is_at l o m ≡ false → live_at (mark p es ms) l o ≡ Some x → (c : Bool) → live_at (becomes c status.Dead m ∷ mark p es ms) l o ≡ Some x
     dull e f k true = k
     dull e f k false = rw (e, f) k
 
-    at : (live_at ms l o ≡ Some x → live_at (mark p es ms) l o ≡ Some x) → (a : Bool) → is_live m.state ≡ a → (b : Bool) → is_at l o m ≡ b → or_else (both a b) m (live_at ms l o) ≡ Some x → live_at (mark p es (m ∷ ms)) l o ≡ Some x
+    at : (live_at ms l o ≡ Some x → live_at (mark p es ms) l o ≡ Some x) → (a : Bool) → is_live m.state ≡ a → (b : Bool) → is_at l o m ≡ b → (cond (a && b) (Some m) (live_at ms l o)) ≡ Some x → live_at (mark p es (m ∷ ms)) l o ≡ Some x
     at tail true e true f k =
         let same : m ≡ x = cc in
-        let still : both (eqb m.page p) (named es m) ≡ false = rw same n in
+        let still : (eqb m.page p && named es m) ≡ false = rw same n in
         rw (e, still) (rw (e, f) (ap Some same))
-    at tail true e false f k = rw e (dull e f (tail k) (both (eqb m.page p) (named es m)))
+    at tail true e false f k = rw e (dull e f (tail k) (eqb m.page p && named es m))
     at tail false e b f k = rw e (rw e (tail k))
 
-quiet-mark-one : (b : Bool) (m : Message) → is_pending m.state ≡ false → is_pending (becomes b dead m).state ≡ false
+quiet-mark-one : (b : Bool) (m : Message) → is_pending m.state ≡ false → is_pending (becomes b status.Dead m).state ≡ false
 quiet-mark-one true m h = refl
 quiet-mark-one false m h = h
 
 pub mark-quiet : (p : ℕ) (es : List CacheInfo) (ms : List Message) → any_pending ms ≡ false → any_pending (mark p es ms) ≡ false
 mark-quiet p es [] q = q
-mark-quiet p es (m ∷ ms) q = either-none _ _ (quiet-mark-one _ m (either_left _ _ q)) (mark-quiet p es ms (either_right _ _ q))
+mark-quiet p es (m ∷ ms) q = or_from _ _ (quiet-mark-one _ m (or_parts _ _ q).0) (mark-quiet p es ms (or_parts _ _ q).1)
 
 -- The live messages of a page.
 pub sheds-lives : {ms ks : List Message} → Sheds ms ks → (q : ℕ) → lives_of q ks ≡ lives_of q ms
@@ -184,37 +165,28 @@ sheds-lives none q = refl
 sheds-lives (kept s) q = rw (sheds-lives s q)
 sheds-lives (shed {m = m} h s) q = rw (done_dull m.state h) (sheds-lives s q)
 
-keep_append : (b : Bool) (m : Message) (xs ys : List Message) → keep_if b m (xs ++ ys) ≡ keep_if b m xs ++ ys
-keep_append true m xs ys = refl
-keep_append false m xs ys = refl
-
 pub lives-append : (q : ℕ) (ms ns : List Message) → lives_of q (ms ++ ns) ≡ lives_of q ms ++ lives_of q ns
-lives-append q [] ns = refl
-lives-append q (m ∷ ms) ns = rw (lives-append q ms ns) (keep_append (both (is_live m.state) (eqb m.page q)) m (lives_of q ms) (lives_of q ns))
-
-append-none : (ms : List Message) → ms ++ [] ≡ ms
-append-none [] = refl
-append-none (m ∷ ms) = rw (append-none ms)
+lives-append q = filter-append (λ m. is_live m.state && eqb m.page q)
 
 module _ {M N : Meaning} {p : ℕ} {k : Kind} {bytes : List ℕ} {fit : Bool} {r : Reservation} (a : Reserved M N p k bytes fit r) where
   -- while it is pending, every page has the live messages that it had
   pub lives-reserved : (q : ℕ) → lives_of q N.messages ≡ lives_of q M.messages
-  lives-reserved q = rw a.after (lives-append q a.kept (fresh p k bytes a.size r pending ∷ []) ∙ append-none (lives_of q a.kept) ∙ sheds-lives a.sheds q)
+  lives-reserved q = rw a.after (lives-append q a.kept (fresh p k bytes a.size r status.Pending ∷ []) ∙ append-nil (lives_of q a.kept) ∙ sheds-lives a.sheds q)
 
   pub live-reserved : (l : ℕ) (o : DiskPtr) → live_at N.messages l o ≡ live_at M.messages l o
-  live-reserved l o = rw a.after (live-dull a.kept (fresh p k bytes a.size r pending) l o refl ∙ sheds-live a.sheds l o)
+  live-reserved l o = rw a.after (live-dull a.kept (fresh p k bytes a.size r status.Pending) l o refl ∙ sheds-live a.sheds l o)
 
 module _ {M N O : Meaning} {p : ℕ} {k : Kind} {bytes : List ℕ} {fit : Bool} {r : Reservation} (a : Reserved M N p k bytes fit r) where
   -- completed, it is its page's last
-  pub lives-written : Settled N O r Complete → lives_of p O.messages ≡ lives_of p M.messages ++ (fresh p k bytes a.size r live ∷ [])
-  lives-written b = rw (after-settle a Complete b, lives-append p a.kept (fresh p k bytes a.size r live ∷ []), sheds-lives a.sheds p, eqb_refl p) refl
+  pub lives-written : Settled N O r Complete → lives_of p O.messages ≡ lives_of p M.messages ++ (fresh p k bytes a.size r status.Live ∷ [])
+  lives-written b = rw (after-settle a Complete b, lives-append p a.kept (fresh p k bytes a.size r status.Live ∷ []), sheds-lives a.sheds p, eqb_refl p) refl
 
   -- and no other page's
   pub lives_beside : Settled N O r Complete → (q : ℕ) → (p ≡ q → ⊥) → lives_of q O.messages ≡ lives_of q M.messages
-  lives_beside b q n = rw (after-settle a Complete b, lives-append q a.kept (fresh p k bytes a.size r live ∷ []), sheds-lives a.sheds q, ne_eqb p q n) (append-none (lives_of q M.messages))
+  lives_beside b q n = rw (after-settle a Complete b, lives-append q a.kept (fresh p k bytes a.size r status.Live ∷ []), sheds-lives a.sheds q, ne_eqb p q n) (append-nil (lives_of q M.messages))
 
   pub lives-undone : Settled N O r Abort → (q : ℕ) → lives_of q O.messages ≡ lives_of q M.messages
-  lives-undone b q = rw (after-settle a Abort b, lives-append q a.kept (fresh p k bytes a.size r cancelled ∷ []), sheds-lives a.sheds q) (append-none (lives_of q M.messages))
+  lives-undone b q = rw (after-settle a Abort b, lives-append q a.kept (fresh p k bytes a.size r status.Cancelled ∷ []), sheds-lives a.sheds q) (append-nil (lives_of q M.messages))
 
 -- marking takes the named ones of its page
 pub lives-mark : (p : ℕ) (es : List CacheInfo) (ms : List Message) → lives_of p (mark p es ms) ≡ unnamed es (lives_of p ms)
@@ -243,27 +215,22 @@ pub mark-none : (p : ℕ) (e : CacheInfo) (ms : List Message) → live_at ms e.l
 mark-none p e [] h = refl
 mark-none p e (m ∷ ms) h = at (mark-none p e ms) (is_live m.state) refl (is_at e.lsn e.pointer m) refl h
   where
-    at : (live_at ms e.lsn e.pointer ≡ None → mark p (e ∷ []) ms ≡ ms) → (a : Bool) → is_live m.state ≡ a → (b : Bool) → is_at e.lsn e.pointer m ≡ b → or_else (both a b) m (live_at ms e.lsn e.pointer) ≡ None → mark p (e ∷ []) (m ∷ ms) ≡ m ∷ ms
-    at rest true x true y k = absurd (let z : ◌≡◌ {A = ℕ} 0 1 = cc in omega arith)
-    at rest true x false y k = rw (x, y, both_no (eqb m.page p), rest k)
+    at : (live_at ms e.lsn e.pointer ≡ None → mark p (e ∷ []) ms ≡ ms) → (a : Bool) → is_live m.state ≡ a → (b : Bool) → is_at e.lsn e.pointer m ≡ b → (cond (a && b) (Some m) (live_at ms e.lsn e.pointer)) ≡ None → mark p (e ∷ []) (m ∷ ms) ≡ m ∷ ms
+    at rest true x true y k = absurd (none-some m (sym k))
+    at rest true x false y k = rw (x, y, and-false (eqb m.page p), rest k)
     at rest false x b y k = rw (x, rest k)
 
 -- entry by entry
-named_push : (es : List CacheInfo) (e : CacheInfo) (m : Message) → named (es ++ (e ∷ [])) m ≡ either (named es m) (named (e ∷ []) m)
-named_push [] e m = refl
-named_push (x ∷ es) e m = at (named_push es e m) (is_at x.lsn x.pointer m)
-  where
-    at : named (es ++ (e ∷ [])) m ≡ either (named es m) (named (e ∷ []) m) → (b : Bool) → either b (named (es ++ (e ∷ [])) m) ≡ either (either b (named es m)) (named (e ∷ []) m)
-    at k true = refl
-    at k false = k
+named_push : (es : List CacheInfo) (e : CacheInfo) (m : Message) → named (es ++ (e ∷ [])) m ≡ (named es m || (named (e ∷ []) m))
+named_push es e m = list_any-append (λ x. is_at x.lsn x.pointer m) es (e ∷ [])
 
 abbrev hit : ℕ → List CacheInfo → Message → Bool
-hit p es m = both (is_live m.state) (both (eqb m.page p) (named es m))
+hit p es m = is_live m.state && (eqb m.page p && named es m)
 
-mark_head : (p : ℕ) (es : List CacheInfo) (e : CacheInfo) (m : Message) → becomes (hit p (es ++ (e ∷ [])) m) dead m ≡ becomes (hit p (e ∷ []) (becomes (hit p es m) dead m)) dead (becomes (hit p es m) dead m)
+mark_head : (p : ℕ) (es : List CacheInfo) (e : CacheInfo) (m : Message) → becomes (hit p (es ++ (e ∷ [])) m) status.Dead m ≡ becomes (hit p (e ∷ []) (becomes (hit p es m) status.Dead m)) status.Dead (becomes (hit p es m) status.Dead m)
 mark_head p es e m = rw (named_push es e m) (at (is_live m.state) refl (eqb m.page p) refl (named es m) refl)
   where
-    at : (a : Bool) → is_live m.state ≡ a → (b : Bool) → eqb m.page p ≡ b → (c : Bool) → named es m ≡ c → becomes (both (is_live m.state) (both (eqb m.page p) (either (named es m) (named (e ∷ []) m)))) dead m ≡ becomes (hit p (e ∷ []) (becomes (hit p es m) dead m)) dead (becomes (hit p es m) dead m)
+    at : (a : Bool) → is_live m.state ≡ a → (b : Bool) → eqb m.page p ≡ b → (c : Bool) → named es m ≡ c → becomes (is_live m.state && (eqb m.page p && (named es m || (named (e ∷ []) m)))) status.Dead m ≡ becomes (hit p (e ∷ []) (becomes (hit p es m) status.Dead m)) status.Dead (becomes (hit p es m) status.Dead m)
     at false x b y c z = rw x (rw x refl)
     at true x false y c z = rw (x, y) (rw (x, y) refl)
     at true x true y true z = rw (x, y, z) refl
@@ -275,4 +242,4 @@ mark_push p es e (m ∷ ms) = rw (mark_head p es e m, mark_push p es e ms)
 
 pub mark_empty : (p : ℕ) (ms : List Message) → mark p [] ms ≡ ms
 mark_empty p [] = refl
-mark_empty p (m ∷ ms) = rw (both_no (eqb m.page p), both_no (is_live m.state), mark_empty p ms)
+mark_empty p (m ∷ ms) = rw (and-false (eqb m.page p), and-false (is_live m.state), mark_empty p ms)

@@ -1,5 +1,5 @@
 -- What each call of a log promises. Assumes nothing.
-use Rattle.std.specs.Prelude.{◌≡◌, ℕ, ◌+◌, ◌^◌, ◌<◌, ◌≤◌, Bool, true, false, List, [], ◌∷◌, ◌++◌, length, drop, is_some, Some, None, Ok, Err, Result, ◌≢◌}
+use Rattle.std.specs.Prelude.{◌≡◌, ℕ, ◌+◌, ◌^◌, ◌<◌, ◌≤◌, Bool, true, false, List, [], ◌∷◌, ◌++◌, length, drop, is_some, Some, None, Ok, Err, Result, ◌≢◌, ◌&&◌}
 use Rattle.logs.specs.declared.messages.Kind.{Kind}
 use Rattle.fault.specs.declared.disk_pointer.DiskPtr.{DiskPtr}
 use Rattle.logs.specs.declared.messages.CacheInfo.{CacheInfo}
@@ -9,9 +9,12 @@ use Rattle.logs.specs.declared.reservation.Reservation.{Reservation}
 use Rattle.logs.specs.declared.reservation.Returned.{Returned}
 use Rattle.fault.specs.declared.bytes_fault.BytesFault.TheVariants.{ScratchTooSmall}
 use Rattle.logs.specs.declared.messages.Event.{Event}
-use Rattle.logs.specs.Meaning.{Meaning, Message, State, pending, live, meets, both, is_blob, same_blob, any_pending, live_at, pending_at, settle, mark, Sheds, Below}
+use Rattle.logs.specs.Meaning.{Meaning, Message, same_blob, any_pending, live_at, pending_at, settle, mark, Sheds, Below, met}
+use Rattle.logs.specs.declared.messages.Status.TheVariants as status
+use Rattle.logs.specs.declared.messages.Status.{Status}
+use Rattle.fault.specs.Pointers.{is_blob}
 
-abbrev pub fresh : ℕ → Kind → List ℕ → ℕ → Reservation → State → Message
+abbrev pub fresh : ℕ → Kind → List ℕ → ℕ → Reservation → Status → Message
 fresh p k bytes z r s = record { lsn = r.lsn; pointer = r.pointer; page = p; kind = k; payload = bytes; size = z; state = s }
 
 -- a pending message was added, where it fitted
@@ -29,7 +32,7 @@ pub record Reserved (M N : Meaning) (p : ℕ) (k : Kind) (bytes : List ℕ) (fit
   pub slim : size ≤ length bytes + 64
   pub kept : List Message
   pub sheds : Sheds M.messages kept
-  pub after : N.messages ≡ kept ++ (fresh p k bytes size r pending ∷ [])
+  pub after : N.messages ≡ kept ++ (fresh p k bytes size r status.Pending ∷ [])
   pub newer : Below r.lsn M.messages
 
 -- why a reservation for the page is refused: 30 while one is pending, else 29 exactly where it does not fit
@@ -47,7 +50,7 @@ OnReserve M N p k bytes (Err f) = (N ≡ M) × Refused M.messages (M.fits (lengt
 
 -- a live blob is there
 abbrev pub blob_there : List Message → ℕ → DiskPtr → Bool
-blob_there ms l o = both (is_blob o) (is_some (live_at ms l o))
+blob_there ms l o = is_blob o && is_some (live_at ms l o)
 
 pub record Moved (M N : Meaning) (p l : ℕ) (o : DiskPtr) (r : Reservation) : Type 0 where
   pub source : Message
@@ -75,7 +78,7 @@ pub record Settled (M N : Meaning) (r : Reservation) (e : Event) : Type 0 where
   pub there : pending_at M.messages r.lsn r.pointer ≡ true
   pub number : N.number ≡ M.number
   pub stable : N.stable ≡ M.stable
-  pub after : N.messages ≡ settle (meets pending e) r.lsn r.pointer M.messages
+  pub after : N.messages ≡ settle (met status.Pending e) r.lsn r.pointer M.messages
 
 -- why a reservation is not taken: it is another log's, or no such message is pending
 abbrev pub NotTaken : ℕ → List Message → Reservation → LogFault → Type 0
@@ -132,7 +135,7 @@ OnRead ms p l o before after (Err f) = (after ≡ before) × NotFound ms p l o b
 pub record Written (M N : Meaning) (p : ℕ) (k : Kind) (bytes : List ℕ) (e : Reservation) : Type 0 where
   pub size : ℕ
   pub grows : (l : ℕ) (o : DiskPtr) (m : Message) → live_at M.messages l o ≡ Some m → live_at N.messages l o ≡ Some m
-  pub there : live_at N.messages e.lsn e.pointer ≡ Some (record { lsn = e.lsn; pointer = e.pointer; page = p; kind = k; payload = bytes; size = size; state = live })
+  pub there : live_at N.messages e.lsn e.pointer ≡ Some (record { lsn = e.lsn; pointer = e.pointer; page = p; kind = k; payload = bytes; size = size; state = status.Live })
   pub newer : (l : ℕ) (o : DiskPtr) (m : Message) → live_at M.messages l o ≡ Some m → l < e.lsn
   pub quiet : any_pending N.messages ≡ false
 

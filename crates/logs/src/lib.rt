@@ -10,5 +10,7 @@ pub mod reservation;
 
 pub use log::Log;
 pub use log_fault::LogFault;
-pub use messages::{CacheInfo, Event, Kind, Position, Status};
+pub use messages::{
+    CacheInfo, Event, HEADER_LEN, Kind, MAX_PAYLOAD, POSITION_END, Position, Status,
+};
 pub use reservation::{Reservation, Returned};

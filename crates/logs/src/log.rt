@@ -34,6 +34,7 @@ pub trait Log {
         ensures { means self.new ≡ means self.old };
 
     // The kind and the length of a live message of the page, whose payload is put to the front of the scratch.
+    // Kept: the length comes beside the buffer, since the caller lends it and no call may allocate.
     fn read(
         &self,
         pid: PageId,
@@ -65,8 +66,6 @@ pub trait Log {
 }
 
 // What every log keeps: which messages are live after each call.
-pub fn laws_stand() -> u8
+pub fn laws_stand()
     ensures { Standing }
-{
-    0
-}
+{}

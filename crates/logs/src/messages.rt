@@ -3,8 +3,17 @@ ghost use Rattle.logs.specs.Meaning.{met};
 
 use fault::DiskPtr;
 
-// A position in a log, in order of reserving: at least 1, below 2^62.
+// A position in a log, in order of reserving: at least 1, below `POSITION_END`.
 pub type Position = u64;
+
+// No position is this high.
+pub const POSITION_END: Position = 1 << 62;
+
+// The longest payload, in bytes.
+pub const MAX_PAYLOAD: usize = 1152;
+
+// What a message takes of its log beside its payload, in bytes.
+pub const HEADER_LEN: usize = 32;
 
 // What a message holds.
 #[derive(Clone, Copy, PartialEq, Eq, Debug)]

@@ -1,8 +1,8 @@
 ghost use Rattle.std.specs.Prelude.{◌≡◌};
-ghost use Rattle.logs.specs.Meaning.{Spent};
+ghost use Rattle.logs.specs.Meaning.{Spent, entry_of};
 
 use crate::log_fault::LogFault;
-use crate::messages::Position;
+use crate::messages::{CacheInfo, Position};
 use fault::DiskPtr;
 
 // A place in a log that has to be handed to complete or abort: it can be neither dropped nor taken apart.
@@ -21,7 +21,9 @@ pub struct Returned {
 impl Reservation {
     // A reservation of the message at a position and pointer, in the log with this number.
     pub fn new(log: u64, lsn: Position, pointer: DiskPtr) -> Reservation
-        ensures { (result.log ≡ log) × (result.lsn ≡ lsn) × (result.pointer ≡ pointer) }
+        ensures log { result.log ≡ log }
+        ensures lsn { result.lsn ≡ lsn }
+        ensures pointer { result.pointer ≡ pointer }
     {
         Reservation { log, lsn, pointer }
     }
@@ -45,18 +47,47 @@ impl Reservation {
         self.pointer
     }
 
+    // The entry that names its message, with no stamp and no size yet.
+    pub fn entry(&self) -> CacheInfo
+        ensures { result ≡ entry_of self.now }
+    {
+        CacheInfo {
+            ts: 0,
+            lsn: self.lsn,
+            pointer: self.pointer,
+            log_size: 0,
+        }
+    }
+
     // Ends the reservation of the message that a log has just settled; any other is given back.
+    // Kept: the three that name a message are its own fields, and a struct for them would be a second reservation.
     pub fn spend(self, log: u64, lsn: Position, pointer: DiskPtr) -> Result<(), Reservation>
         ensures { Spent self log lsn pointer result }
     {
         if self.log != log || self.lsn != lsn || self.pointer != pointer {
             return Err(self);
         }
+        self.end();
+        Ok(())
+    }
+
+    // Takes it apart.
+    fn end(self) {
         let Reservation {
             log: _,
             lsn: _,
             pointer: _,
         } = self;
-        Ok(())
+    }
+}
+
+impl Returned {
+    // Ends a reservation that no log takes, and says why.
+    pub fn give_up(self) -> LogFault
+        ensures { result ≡ self.fault }
+    {
+        let Returned { reservation, fault } = self;
+        reservation.end();
+        fault
     }
 }

@@ -2,17 +2,20 @@ ghost use Rattle.std.specs.Prelude.{◌≡◌};
 ghost use Rattle.payload.specs.declared.line_fault.LineFault.TheVariants.{Memory};
 
 use std::alloc::{AllocError, AllocFailed};
-use std::fmt;
+use thiserror::Error;
 
 // Why a line is no command.
-#[derive(Clone, Copy)]
+#[derive(Clone, Copy, Debug, Error)]
 pub enum LineFault {
     // It has none of the forms.
+    #[error("refused 11: unknown line")]
     Unknown,
     // There is no memory to hold it.
+    #[error("no memory for this line")]
     Memory,
 }
 
+// Kept: the derive's `#[from]` does not say which variant it makes, and callers rest on that.
 impl From<AllocError> for LineFault {
     ghost from_gives = { λ _ r. r ≡ Memory };
 
@@ -21,19 +24,11 @@ impl From<AllocError> for LineFault {
     }
 }
 
+// Kept: as the one above.
 impl<T: Drop> From<AllocFailed<T>> for LineFault {
     ghost from_gives = { λ _ r. r ≡ Memory };
 
     fn from(_fault: AllocFailed<T>) -> LineFault {
         LineFault::Memory
-    }
-}
-
-impl fmt::Display for LineFault {
-    fn fmt<W: fmt::Write>(&self, f: &mut fmt::Formatter<W>) -> fmt::Result {
-        f.write_str(match self {
-            LineFault::Unknown => "refused 11: unknown line",
-            LineFault::Memory => "no memory for this line",
-        })
     }
 }

@@ -1,13 +1,12 @@
 -- A segment has room for 128 messages at most, so headers never run out. Assumes nothing.
 use Rattle.std.proofs.Common.{◌≡◌, ℕ, zero, suc, ◌+◌, ◌*◌, ◌/◌, ◌<◌, ◌≤◌, Bool, true, false, cond, eqb, ◌⊎◌, List, [], ◌∷◌, ◌++◌, length, sym, refl, ap, ◌∙◌, inl, inr, arith, eq-eqb, ne_eqb}
-use Rattle.std.proofs.lemmas.Bool.{cases_lt, cases_eq}
-use Rattle.logs.proofs.Laws.{either_left, either_right}
+use Rattle.std.proofs.lemmas.Bool.{cases_lt, cases_eq, and_parts, or_parts}
 use Rattle.book.specs.declared.head.Head.{Head}
 use Rattle.book.specs.Heads.{bare, lives, live_head}
-use Rattle.book.proofs.Headers.{both_0, both_1}
 use Rattle.fault.specs.Pointers.{lid_of}
-use Rattle.segmented.specs.Layout.{in_seg, one_if, count_seg, share, some_head, placed, laid}
+use Rattle.segmented.specs.Layout.{in_seg, one_if, count_seg, share, placed, laid}
 use Rattle.segmented.proofs.Laying.{in_segs}
+use Rattle.std.specs.List.{list_any}
 
 abbrev sum_below : (ℕ → ℕ) → ℕ → ℕ
 sum_below F zero = 0
@@ -45,8 +44,8 @@ sum_one x (suc n) h = at (λ g. sum_one x n g) (cases_lt x n)
 total : (segs slots a f : ℕ) (hs : List Head) → laid segs slots a f hs ≡ true → sum_below (λ q. count_seg q hs) segs ≡ length hs
 total segs slots a f [] t = sum-zero segs
 total segs slots a f (h ∷ hs) t =
-    let e = total segs slots a f hs (both_1 (placed segs slots a f h) _ t) in
-    let d = sum_one (lid_of h.pointer / 4096) segs (in_segs segs slots a f h (both_0 (placed segs slots a f h) _ t)) in
+    let e = total segs slots a f hs (and_parts (placed segs slots a f h) _ t).1 in
+    let d = sum_one (lid_of h.pointer / 4096) segs (in_segs segs slots a f h (and_parts (placed segs slots a f h) _ t).0) in
     sum_add (λ q. one_if (in_seg q h)) (λ q. count_seg q hs) segs ∙ omega arith
 
 most : (F : ℕ → ℕ) → ((q : ℕ) → F q ≤ 128) → (n : ℕ) → sum_below F n ≤ n * 128
@@ -98,14 +97,14 @@ count_lives q (h ∷ hs) = at (count_lives q hs) (live_head h)
 pub packed-lives : (a f : ℕ) (hs gs : List Head) → gs ≡ lives hs → ((q : ℕ) → count_seg q hs * 32 ≤ share a f q) → (q : ℕ) → count_seg q gs * 32 ≤ share a f q
 packed-lives a f hs gs e p q = rw e (omega (arith, count_lives q hs, p q))
 
-count_none : (q : ℕ) (hs : List Head) → some_head (in_seg q) hs ≡ false → count_seg q hs ≡ 0
+count_none : (q : ℕ) (hs : List Head) → list_any (in_seg q) hs ≡ false → count_seg q hs ≡ 0
 count_none q [] v = refl
 count_none q (h ∷ hs) v =
-    let e = count_none q hs (either_right (in_seg q h) (some_head (in_seg q) hs) v) in
-    let d : one_if (in_seg q h) ≡ 0 = ap one_if (either_left (in_seg q h) (some_head (in_seg q) hs) v) in
+    let e = count_none q hs (or_parts (in_seg q h) (list_any (in_seg q) hs) v).1 in
+    let d : one_if (in_seg q h) ≡ 0 = ap one_if (or_parts (in_seg q h) (list_any (in_seg q) hs) v).0 in
     omega arith
 
-pub packed_open : (a f b : ℕ) (hs : List Head) → f ≤ 4096 → some_head (in_seg b) hs ≡ false → ((q : ℕ) → count_seg q hs * 32 ≤ share a f q) → (q : ℕ) → count_seg q hs * 32 ≤ share b 0 q
+pub packed_open : (a f b : ℕ) (hs : List Head) → f ≤ 4096 → list_any (in_seg b) hs ≡ false → ((q : ℕ) → count_seg q hs * 32 ≤ share a f q) → (q : ℕ) → count_seg q hs * 32 ≤ share b 0 q
 packed_open a f b hs l v p q = at (cases_eq q b)
   where
     at : (q ≡ b) ⊎ (q ≡ b → ⊥) → count_seg q hs * 32 ≤ share b 0 q

@@ -4,54 +4,44 @@ use Rattle.book.specs.declared.head.Head.{Head}
 use Rattle.book.specs.declared.book.Book.{Book}
 use Rattle.book.specs.Heads.{lives}
 use Rattle.book.specs.Books.{heads_of, mem_of, Kin, Compacted}
-use Rattle.book.proofs.Headers.{both_1}
 use Rattle.segmented.specs.declared.segmented.Segmented.{Segmented}
 use Rattle.fault.specs.Pointers.{lid_of}
+use Rattle.segmented.specs.Keeping.{Keeps}
 use Rattle.segmented.specs.Layout.{placed, laid, in_seg, free_seg, seg_busy, count_seg, share}
 use Rattle.segmented.proofs.Counting.{packed-lives, packed_open, packed_push, packed-kin}
 use Rattle.segmented.proofs.Laying.{laid_push, laid-bare, laid-lives, laid_open, vacant_lives}
-use Rattle.segmented.proofs.Putting.{not_true}
-
-pub record Keeps (segs slots a f : ℕ) (b : Book) : Type 0 where
-  pub few : segs ≤ 65536
-  pub slim : slots ≤ 65536
-  pub sized : length (mem_of b) ≡ segs * 4096 + slots * 1152
-  pub inside : a < segs
-  pub filled : f ≤ 4096
-  pub roomy : segs * 128 ≤ vec_capacity b.heads
-  pub packed : (q : ℕ) → count_seg q (heads_of b) * 32 ≤ share a f q
-  pub lay : laid segs slots a f (heads_of b) ≡ true
+use Rattle.std.proofs.lemmas.Bool.{and_parts, not-true}
 
 module _ (s : Segmented) (c : Book) where
   -- only states have changed
   pub kin_keeps : Kin s.book c → Keeps s.segs s.slots s.active s.fill c
   kin_keeps k =
-      let sized = ap (λ v. length (vec_items v)) k.mem ∙ s.sized in
-      let lay = sym (laid-bare s.segs s.slots s.active s.fill (heads_of c)) ∙ ap (laid s.segs s.slots s.active s.fill) k.heads ∙ laid-bare s.segs s.slots s.active s.fill (heads_of s.book) ∙ s.lay in
+      let sized = ap (λ v. length (vec_items v)) k.mem ∙ s.kept.sized in
+      let lay = sym (laid-bare s.segs s.slots s.active s.fill (heads_of c)) ∙ ap (laid s.segs s.slots s.active s.fill) k.heads ∙ laid-bare s.segs s.slots s.active s.fill (heads_of s.book) ∙ s.kept.lay in
       record {
-        few = s.few;
-        slim = s.slim;
+        few = s.kept.few;
+        slim = s.kept.slim;
         sized = sized;
-        inside = s.inside;
-        filled = s.filled;
-        roomy = rw k.cap s.roomy;
-        packed = packed-kin s.active s.fill (heads_of s.book) (heads_of c) k.heads s.packed;
+        inside = s.kept.inside;
+        filled = s.kept.filled;
+        roomy = rw k.cap s.kept.roomy;
+        packed = packed-kin s.active s.fill (heads_of s.book) (heads_of c) k.heads s.kept.packed;
         lay = lay;
       }
 
   -- dead and cancelled messages have left
   pub lives_keeps : Compacted s.book c → Keeps s.segs s.slots s.active s.fill c
   lives_keeps e =
-      let sized = ap (λ v. length (vec_items v)) e.mem ∙ s.sized in
-      let lay : laid s.segs s.slots s.active s.fill (heads_of c) ≡ true = rw e.heads (laid-lives s.segs s.slots s.active s.fill (heads_of s.book) s.lay) in
+      let sized = ap (λ v. length (vec_items v)) e.mem ∙ s.kept.sized in
+      let lay : laid s.segs s.slots s.active s.fill (heads_of c) ≡ true = rw e.heads (laid-lives s.segs s.slots s.active s.fill (heads_of s.book) s.kept.lay) in
       record {
-        few = s.few;
-        slim = s.slim;
+        few = s.kept.few;
+        slim = s.kept.slim;
         sized = sized;
-        inside = s.inside;
-        filled = s.filled;
-        roomy = rw e.cap s.roomy;
-        packed = packed-lives s.active s.fill _ _ e.heads s.packed;
+        inside = s.kept.inside;
+        filled = s.kept.filled;
+        roomy = rw e.cap s.kept.roomy;
+        packed = packed-lives s.active s.fill _ _ e.heads s.kept.packed;
         lay = lay;
       }
 
@@ -59,18 +49,18 @@ module _ (s : Segmented) (c : Book) where
   pub open_keeps : Compacted s.book c → (b : ℕ) → b < s.segs → free_seg s.active (heads_of s.book) b ≡ true → Keeps s.segs s.slots b 0 c
   open_keeps e b i f =
       let hs = heads_of s.book in
-      let v = vacant_lives (in_seg b) hs (not_true (seg_busy b hs) (both_1 (not (eqb b s.active)) _ f)) in
-      let sized = ap (λ v. length (vec_items v)) e.mem ∙ s.sized in
-      let lay : laid s.segs s.slots b 0 (heads_of c) ≡ true = rw e.heads (laid_open s.segs s.slots s.active s.fill b (lives hs) s.filled v (laid-lives s.segs s.slots s.active s.fill hs s.lay)) in
+      let v = vacant_lives (in_seg b) hs (not-true (seg_busy b hs) (and_parts (not (eqb b s.active)) _ f).1) in
+      let sized = ap (λ v. length (vec_items v)) e.mem ∙ s.kept.sized in
+      let lay : laid s.segs s.slots b 0 (heads_of c) ≡ true = rw e.heads (laid_open s.segs s.slots s.active s.fill b (lives hs) s.kept.filled v (laid-lives s.segs s.slots s.active s.fill hs s.kept.lay)) in
       let packed : (q : ℕ) → count_seg q (heads_of c) * 32 ≤ share b 0 q =
-      λ q. rw e.heads (packed_open s.active s.fill b (lives hs) s.filled v (packed-lives s.active s.fill hs (lives hs) refl s.packed) q) in
+      λ q. rw e.heads (packed_open s.active s.fill b (lives hs) s.kept.filled v (packed-lives s.active s.fill hs (lives hs) refl s.kept.packed) q) in
       record {
-        few = s.few;
-        slim = s.slim;
+        few = s.kept.few;
+        slim = s.kept.slim;
         sized = sized;
         inside = i;
         filled = omega arith;
-        roomy = rw e.cap s.roomy;
+        roomy = rw e.cap s.kept.roomy;
         packed = packed;
         lay = lay;
       }
@@ -79,14 +69,14 @@ module _ (s : Segmented) (c : Book) where
   pub push_keeps : (x : Head) (g : ℕ) → heads_of c ≡ heads_of s.book ++ (x ∷ []) → length (mem_of c) ≡ length (mem_of s.book) → vec_capacity c.heads ≡ vec_capacity s.book.heads
       → lid_of x.pointer / 4096 ≡ s.active → s.fill + 32 ≤ g → g ≤ 4096 → placed s.segs s.slots s.active g x ≡ true → Keeps s.segs s.slots s.active g c
   push_keeps x g e m k at l n p =
-      let lay : laid s.segs s.slots s.active g (heads_of c) ≡ true = rw e (laid_push s.segs s.slots s.active s.fill g (heads_of s.book) x (omega arith) p s.lay) in
+      let lay : laid s.segs s.slots s.active g (heads_of c) ≡ true = rw e (laid_push s.segs s.slots s.active s.fill g (heads_of s.book) x (omega arith) p s.kept.lay) in
       record {
-        few = s.few;
-        slim = s.slim;
-        sized = m ∙ s.sized;
-        inside = s.inside;
+        few = s.kept.few;
+        slim = s.kept.slim;
+        sized = m ∙ s.kept.sized;
+        inside = s.kept.inside;
         filled = n;
-        roomy = rw k s.roomy;
-        packed = packed_push s.active s.fill g (heads_of s.book) (heads_of c) x e at l s.packed;
+        roomy = rw k s.kept.roomy;
+        packed = packed_push s.active s.fill g (heads_of s.book) (heads_of c) x e at l s.kept.packed;
         lay = lay;
       }

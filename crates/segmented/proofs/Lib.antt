@@ -1,4 +1,3 @@
-pub mod Scanned
 pub mod Laying
 pub mod Putting
 pub mod Counting

@@ -1,77 +1,75 @@
--- The search for the lowest page. Assumes nothing.
-use Rattle.std.proofs.Common.{◌≡◌, ℕ, ◌<◌, ◌≤◌, Bool, true, false, eqb, ltb, leb, ◌⊎◌, List, [], ◌∷◌, ◌++◌, Some, None, Option, sym, refl, ap, ◌∙◌, subst, inl, inr, arith, ltb-true, lt-ltb, eq-eqb, le-leb, leb-true}
-use Rattle.std.proofs.lemmas.Bool.{cases_lt}
-use Rattle.logs.specs.Meaning.{both, either}
-use Rattle.logs.proofs.Laws.{either_left, either_right, either_yes, both_no}
+-- The lowest page of the live messages in a segment. Assumes nothing.
+use Rattle.std.proofs.Common.{◌≡◌, ℕ, ◌≤◌, Bool, true, false, cond, min, ◌&&◌, ◌||◌, eqb, ltb, ◌⊎◌, List, [], ◌∷◌, map, filter, fold, Some, None, Option, refl, ap, ◌∙◌, inl, inr, arith, eq-eqb}
+use Rattle.std.specs.List.{list_any, reduce}
+use Rattle.std.proofs.lemmas.Bool.{cases_eq, le-ltb, and_from, and_right, or_from, or_left, or_right}
 use Rattle.book.specs.declared.head.Head.{Head}
-use Rattle.book.proofs.Headers.{both_0, both_1}
-use Rattle.segmented.specs.Layout.{some_head, live_in, at_most, Lowest}
+use Rattle.segmented.specs.Layout.{live_in, Lowest}
 
-some_push : (T : Head → Bool) (hs : List Head) (x : Head) → some_head T (hs ++ (x ∷ [])) ≡ either (some_head T hs) (T x)
-some_push T [] x = at (T x)
-  where
-    at : (b : Bool) → either b false ≡ b
-    at true = refl
-    at false = refl
-some_push T (h ∷ hs) x = rw (some_push T hs x) (at (T h))
-  where
-    at : (b : Bool) → either b (either (some_head T hs) (T x)) ≡ either (either b (some_head T hs)) (T x)
-    at true = refl
-    at false = refl
+module _ (q : ℕ) where
+  abbrev pub pages : List Head → List ℕ
+  pages hs = map (λ (h : Head). h.page) (filter (live_in q) hs)
 
-no_both : (b c : Bool) → (b ≡ true → c ≡ true) → c ≡ false → b ≡ false
-no_both true c f h = sym (f refl) ∙ h
-no_both false c f h = refl
+  abbrev has : ℕ → List Head → Bool
+  has m hs = list_any (λ h. live_in q h && eqb h.page m) hs
 
-some_mono : (T U : Head → Bool) → ((h : Head) → T h ≡ true → U h ≡ true) → (hs : List Head) → some_head U hs ≡ false → some_head T hs ≡ false
-some_mono T U f [] v = refl
-some_mono T U f (h ∷ hs) v = rw (no_both (T h) (U h) (f h) (either_left (U h) (some_head U hs) v), some_mono T U f hs (either_right (U h) (some_head U hs) v)) refl
+  abbrev under : ℕ → List Head → Bool
+  under m hs = list_any (λ h. live_in q h && ltb h.page m) hs
 
-left-none : (a b : Bool) → a ≡ false → b ≡ false → either a b ≡ false
-left-none a b h k = rw h k
+  -- m is p or a page, and none is below it
+  abbrev Least : ℕ → ℕ → List Head → Type 0
+  Least p m hs = (m ≤ p) × ((m ≡ p) ⊎ (has m hs ≡ true)) × (under m hs ≡ false)
 
-not_lower : (n p : ℕ) → leb p n ≡ true → ltb n p ≡ false
-not_lower n p h = at (ltb n p) refl
-  where
-    at : (b : Bool) → ltb n p ≡ b → ltb n p ≡ false
-    at true e = absurd (omega (arith, ltb-true n p e, leb-true p n h))
-    at false e = e
+  -- what is not live there does not count
+  has_skip : (m : ℕ) (x : Head) (hs : List Head) → live_in q x ≡ false → has m (x ∷ hs) ≡ has m hs
+  has_skip m x hs e = ap (λ (b : Bool). (b && eqb x.page m) || has m hs) e
 
-lower_from : (n p : ℕ) → leb p n ≡ false → n < p
-lower_from n p h = at (cases_lt n p)
-  where
-    at : (n < p) ⊎ (p ≤ n) → n < p
-    at (inl l) = l
-    at (inr l) = absurd (let z : true ≡ false = sym (le-leb p n l) ∙ h in let y : ◌≡◌ {A = ℕ} 0 1 = cc in omega arith)
+  under_skip : (m : ℕ) (x : Head) (hs : List Head) → live_in q x ≡ false → under m (x ∷ hs) ≡ under m hs
+  under_skip m x hs e = ap (λ (b : Bool). (b && ltb x.page m) || under m hs) e
 
-module _ (q : ℕ) (hs : List Head) (x : Head) where
-  pub low_skip : (o : Option ℕ) → live_in q x ≡ false → Lowest q hs o → Lowest q (hs ++ (x ∷ [])) o
-  low_skip None e l = some_push (live_in q) hs x ∙ left-none (some_head (live_in q) hs) (live_in q x) l e
-  low_skip (Some p) e l = (
-    some_push (λ h. both (live_in q h) (eqb h.page p)) hs x ∙ ap (λ (b : Bool). either b (both (live_in q x) (eqb x.page p))) l.0,
-    some_push (λ h. both (live_in q h) (ltb h.page p)) hs x ∙ left-none (some_head (λ h. both (live_in q h) (ltb h.page p)) hs) _ l.1 (ap (λ (b : Bool). both b (ltb x.page p)) e),
-  )
+  skip : (p m : ℕ) (x : Head) (hs : List Head) → live_in q x ≡ false → Least p m hs → Least p m (x ∷ hs)
+  skip p m x hs e h = (h.0, at h.1, under_skip m x hs e ∙ h.2)
+    where
+      at : (m ≡ p) ⊎ (has m hs ≡ true) → (m ≡ p) ⊎ (has m (x ∷ hs) ≡ true)
+      at (inl y) = inl y
+      at (inr y) = inr (has_skip m x hs e ∙ y)
 
-  pub low_same : (o : Option ℕ) → at_most o x.page ≡ true → Lowest q hs o → Lowest q (hs ++ (x ∷ [])) o
-  low_same None e l = absurd (let z : ◌≡◌ {A = ℕ} 0 1 = cc in omega arith)
-  low_same (Some p) e l = (
-    some_push (λ h. both (live_in q h) (eqb h.page p)) hs x ∙ ap (λ (b : Bool). either b (both (live_in q x) (eqb x.page p))) l.0,
-    some_push (λ h. both (live_in q h) (ltb h.page p)) hs x ∙ left-none (some_head (λ h. both (live_in q h) (ltb h.page p)) hs) _ l.1 (ap (both (live_in q x)) (not_lower x.page p e) ∙ both_no (live_in q x)),
-  )
+  here : (m : ℕ) (x : Head) (hs : List Head) → live_in q x ≡ true → x.page ≡ m → has m (x ∷ hs) ≡ true
+  here m x hs e w = or_left (live_in q x && eqb x.page m) (has m hs) (and_from (live_in q x) (eqb x.page m) e (eq-eqb x.page m w))
 
-  none_lower : (o : Option ℕ) → at_most o x.page ≡ false → Lowest q hs o → some_head (λ h. both (live_in q h) (ltb h.page x.page)) hs ≡ false
-  none_lower None e l = some_mono (λ h. both (live_in q h) (ltb h.page x.page)) (live_in q) (λ h t. both_0 (live_in q h) _ t) hs l
-  none_lower (Some p) e l =
-      some_mono (λ h. both (live_in q h) (ltb h.page x.page)) (λ h. both (live_in q h) (ltb h.page p))
-      (λ h t. rw (both_0 (live_in q h) _ t) (let a = ltb-true h.page x.page (both_1 (live_in q h) _ t) in let b = lower_from x.page p e in lt-ltb h.page p (omega arith))) hs l.1
+  none_under : (m : ℕ) (x : Head) (hs : List Head) → m ≤ x.page → under m hs ≡ false → under m (x ∷ hs) ≡ false
+  none_under m x hs l h = or_from (live_in q x && ltb x.page m) (under m hs) (and_right (live_in q x) (ltb x.page m) (le-ltb x.page m l)) h
 
-  pub low_new : (o : Option ℕ) → live_in q x ≡ true → at_most o x.page ≡ false → Lowest q hs o → Lowest q (hs ++ (x ∷ [])) (Some x.page)
-  low_new o v e l =
-      let same : both (live_in q x) (eqb x.page x.page) ≡ true = rw (v, eq-eqb x.page x.page refl) refl in
-      let never : both (live_in q x) (ltb x.page x.page) ≡ false = ap (both (live_in q x)) (not_lower x.page x.page (le-leb x.page x.page (omega arith))) ∙ both_no (live_in q x) in (
-        some_push (λ h. both (live_in q h) (eqb h.page x.page)) hs x ∙ ap (either (some_head (λ h. both (live_in q h) (eqb h.page x.page)) hs)) same ∙ either_yes (some_head (λ h. both (live_in q h) (eqb h.page x.page)) hs),
-        some_push (λ h. both (live_in q h) (ltb h.page x.page)) hs x ∙ left-none (some_head (λ h. both (live_in q h) (ltb h.page x.page)) hs) _ (none_lower o e l) never,
-      )
+  take : (p m : ℕ) (x : Head) (hs : List Head) → live_in q x ≡ true → Least (min p x.page) m hs → Least p m (x ∷ hs)
+  take p m x hs e h = (omega (arith, h.0), at h.1 (cases_eq m p), none_under m x hs (omega (arith, h.0)) h.2)
+    where
+      at : (m ≡ min p x.page) ⊎ (has m hs ≡ true) → (m ≡ p) ⊎ (m ≡ p → ⊥) → (m ≡ p) ⊎ (has m (x ∷ hs) ≡ true)
+      at (inl y) (inl z) = inl z
+      at (inl y) (inr n) = inr (here m x hs e (omega arith))
+      at (inr y) z = inr (or_right (live_in q x && eqb x.page m) (has m hs) y)
 
-pub low-on : (q : ℕ) (hs gs : List Head) (o : Option ℕ) → gs ≡ hs → Lowest q hs o → Lowest q gs o
-low-on q hs gs o e l = let P : List Head → Type 0 = λ y. Lowest q y o in subst P (sym e) l
+  least : (p : ℕ) (hs : List Head) → Least p (fold min p (pages hs)) hs
+  least p [] = (omega arith, inl refl, refl)
+  least p (x ∷ hs) = at (λ n. least n hs) (live_in q x) refl
+    where
+      at : ((n : ℕ) → Least n (fold min n (pages hs)) hs) → (b : Bool) → live_in q x ≡ b → Least p (fold min p (map (λ (h : Head). h.page) (cond b (x ∷ filter (live_in q) hs) (filter (live_in q) hs)))) (x ∷ hs)
+      at rest true e = take p (fold min (min p x.page) (pages hs)) x hs e (rest (min p x.page))
+      at rest false e = skip p (fold min p (pages hs)) x hs e (rest p)
+
+  pub lowest : (hs : List Head) → Lowest q hs (reduce min (pages hs))
+  lowest [] = refl
+  lowest (x ∷ hs) = at (lowest hs) (live_in q x) refl
+    where
+      past : (o : Option ℕ) → live_in q x ≡ false → Lowest q hs o → Lowest q (x ∷ hs) o
+      past None e h = ap (λ (b : Bool). b || list_any (live_in q) hs) e ∙ h
+      past (Some p) e h = (has_skip p x hs e ∙ h.0, under_skip p x hs e ∙ h.1)
+
+      first : (m : ℕ) → live_in q x ≡ true → Least x.page m hs → Lowest q (x ∷ hs) (Some m)
+      first m e h = (found h.1, none_under m x hs h.0 h.2)
+        where
+          found : (m ≡ x.page) ⊎ (has m hs ≡ true) → has m (x ∷ hs) ≡ true
+          found (inl y) = here m x hs e (omega arith)
+          found (inr y) = or_right (live_in q x && eqb x.page m) (has m hs) y
+
+      at : Lowest q hs (reduce min (pages hs)) → (b : Bool) → live_in q x ≡ b → Lowest q (x ∷ hs) (reduce min (map (λ (h : Head). h.page) (cond b (x ∷ filter (live_in q) hs) (filter (live_in q) hs))))
+      at rest true e = first (fold min x.page (pages hs)) e (least x.page hs)
+      at rest false e = past (reduce min (pages hs)) e rest

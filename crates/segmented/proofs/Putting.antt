@@ -1,5 +1,5 @@
 -- What one more message does. Assumes nothing.
-use Rattle.std.proofs.Common.{◌≡◌, ℕ, zero, suc, ◌+◌, ◌*◌, ◌/◌, ◌^◌, ◌<◌, ◌≤◌, Bool, true, false, cond, not, eqb, ltb, leb, ◌⊎◌, List, [], ◌∷◌, ◌++◌, length, get_or, take, drop, is_some, Some, None, vec_items, vec_len, vec_capacity, sym, refl, ap, ◌∙◌, subst, inl, inr, arith, ltb-true, lt-ltb, eq-eqb, eqb-true, le-leb, leb-true}
+use Rattle.std.proofs.Common.{◌≡◌, ℕ, zero, suc, ◌+◌, ◌*◌, ◌/◌, ◌^◌, ◌<◌, ◌≤◌, Bool, true, false, cond, eqb, ltb, leb, ◌⊎◌, List, [], ◌∷◌, ◌++◌, length, get_or, take, drop, is_some, Some, None, vec_items, vec_len, sym, refl, ap, ◌∙◌, subst, inl, inr, arith, ltb-true, lt-ltb, eq-eqb, eqb-true, le-leb, leb-true}
 use Rattle.std.specs.Prelude.{pos, negsuc}
 use Rattle.std.proofs.lemmas.Cmp.{int_eq_equiv}
 use Rattle.std.proofs.lemmas.Bool.Decides.{Decides-int_eq}
@@ -8,29 +8,32 @@ use Rattle.logs.specs.declared.messages.Kind.{Kind}
 use Rattle.fault.specs.declared.disk_pointer.DiskPtr.{DiskPtr}
 use Rattle.fault.specs.declared.disk_pointer.DiskPtr.TheVariants.{Inline, Blob}
 use Rattle.logs.specs.declared.reservation.Reservation.{Reservation}
-use Rattle.logs.specs.Meaning.{Message, State, either, any_pending, is_pending, is_live, pending, live, dead, cancelled, Sheds, same_blob, same_ptr, is_blob, live_at}
+use Rattle.logs.specs.Meaning.{Message, any_pending, is_live, Sheds, same_blob, same_ptr, live_at}
 use Rattle.logs.specs.Clauses.{fresh, Reserved, Moved, blob_there}
 use Rattle.book.specs.declared.head.Head.{Head}
 use Rattle.book.specs.declared.book.Book.{Book}
-use Rattle.logs.specs.Meaning.{state_of}
 use Rattle.book.specs.Heads.{message, messages, lives, live_head, payload_of}
 use Rattle.book.specs.Books.{heads_of, mem_of, told, new_head, Ready, Appended, Overwritten, Compacted, LiveIndex}
-use Rattle.logs.proofs.Laws.{both_no}
 use Rattle.book.proofs.Pages.{found-there, no_head}
-use Rattle.book.proofs.Headers.{both_0, both_1, both_yes, is-ranked, messages_push, messages_below, sheds-none}
+use Rattle.std.proofs.lemmas.Bool.{false≢true, true≢false, lt-leb, not-true, and_from, and_parts}
+use Rattle.book.proofs.Headers.{quiet-lives, span, is-ranked, messages_push, messages_below, sheds-none}
 use Rattle.segmented.specs.declared.segmented.Segmented.{Segmented}
-use Rattle.segmented.specs.Layout.{homed, placed, laid, some_head, in_slot, free_seg, free_slot, slot_busy, some_below, slot_is}
+use Rattle.segmented.specs.Layout.{homed, placed, laid, in_slot, free_seg, free_slot, slot_busy, some_below, slot_is}
 use Rattle.segmented.proofs.Counting.{header_left}
 use Rattle.segmented.specs.Segments.{seg_means, seg_fits, ready, Able, Prepared, Swept, Put}
 use Rattle.segmented.proofs.Laying.{limit-here, home, to_placed, vacant_lives, sheds-lives, Apart_inlines, Apart_blobs, messages_apart, part_new, Apart}
+use Rattle.std.proofs.Math.Bool.{and-false, or-true}
+use Rattle.logs.specs.declared.messages.Status.TheVariants.{Pending}
+use Rattle.fault.specs.Pointers.{is_blob}
+use Rattle.std.specs.List.{list_any}
 
-appended_told : (c d : Book) (p : ℕ) (k : Kind) (o : DiskPtr) (at n : ℕ) (r : Reservation) → Appended c d p k o at n r → told d ≡ told c ++ (message (mem_of c) (new_head c.next p k o at n) ∷ [])
+appended_told : (c d : Book) (p : ℕ) (k : Kind) (o : DiskPtr) (at n : ℕ) (r : Reservation) → Appended c d p k o (span at n) r → told d ≡ told c ++ (message (mem_of c) (new_head c.next p k o (span at n)) ∷ [])
 appended_told c d p k o at n r a =
-    let x = new_head c.next p k o at n in
+    let x = new_head c.next p k o (span at n) in
     ap (λ v. messages (vec_items v) (heads_of d)) a.mem ∙ ap (messages (mem_of c)) a.heads ∙ messages_push (mem_of c) (heads_of c) x
 
 -- the message that a header stands for
-new_message : (c d : Book) (p : ℕ) (k : Kind) (bytes : List ℕ) (o : DiskPtr) (at n : ℕ) (r : Reservation) → Appended c d p k o at n r → take n (drop at (mem_of c)) ≡ bytes → n ≡ length bytes → message (mem_of c) (new_head c.next p k o at n) ≡ fresh p k bytes (length bytes + 32) r pending
+new_message : (c d : Book) (p : ℕ) (k : Kind) (bytes : List ℕ) (o : DiskPtr) (at n : ℕ) (r : Reservation) → Appended c d p k o (span at n) r → take n (drop at (mem_of c)) ≡ bytes → n ≡ length bytes → message (mem_of c) (new_head c.next p k o (span at n)) ≡ fresh p k bytes (length bytes + 32) r Pending
 new_message c d p k bytes o at n r a pay e = rw (pay, a.lsn, a.pointer, sym e) refl
 
 over-told : (b c : Book) (at : ℕ) (bytes : List ℕ) → Overwritten b c at bytes → at ≤ length (mem_of b) → Apart at (length bytes) (heads_of b) → told c ≡ told b
@@ -39,19 +42,19 @@ over-told b c at bytes o l t =
 
 -- the memory that a new payload takes lies within
 pub inline_room : (s : Segmented) (n : ℕ) → Able s (32 + n) → s.active * 4096 + s.fill + 32 + n ≤ length (mem_of s.book)
-inline_room s n h = omega (arith, s.sized, s.inside, h.there)
+inline_room s n h = omega (arith, s.kept.sized, s.kept.inside, h.there)
 
 pub blob-room : (s : Segmented) (i n : ℕ) → i < s.slots → n ≤ 1152 → s.segs * 4096 + i * 1152 + n ≤ length (mem_of s.book)
-blob-room s i n h m = omega (arith, s.sized)
+blob-room s i n h m = omega (arith, s.kept.sized)
 
 pub inline_apart : (s : Segmented) (n : ℕ) → Able s (32 + n) → Apart (s.active * 4096 + s.fill + 32) n (heads_of s.book)
-inline_apart s n h = Apart_inlines s.segs s.slots s.active s.fill n (heads_of s.book) s.inside h.there s.lay
+inline_apart s n h = Apart_inlines s.segs s.slots s.active s.fill n (heads_of s.book) s.kept.inside h.there s.kept.lay
 
-pub blob_apart : (s : Segmented) (i n : ℕ) → n ≤ 1152 → some_head (in_slot i) (heads_of s.book) ≡ false → Apart (s.segs * 4096 + i * 1152) n (heads_of s.book)
-blob_apart s i n m v = Apart_blobs s.segs s.slots s.active s.fill n i (heads_of s.book) s.filled m v s.lay
+pub blob_apart : (s : Segmented) (i n : ℕ) → n ≤ 1152 → list_any (in_slot i) (heads_of s.book) ≡ false → Apart (s.segs * 4096 + i * 1152) n (heads_of s.book)
+blob_apart s i n m v = Apart_blobs s.segs s.slots s.active s.fill n i (heads_of s.book) s.kept.filled m v s.kept.lay
 
 -- a payload that lies apart changes no message, so that one more may be added
-pub over-ready : (s : Segmented) (c : Book) (at : ℕ) (bytes : List ℕ) (need : ℕ) → Overwritten s.book c at bytes → at + length bytes ≤ length (mem_of s.book) → Apart at (length bytes) (heads_of s.book) → Able s need → length bytes ≤ 1152 → Ready c at (length bytes)
+pub over-ready : (s : Segmented) (c : Book) (at : ℕ) (bytes : List ℕ) (need : ℕ) → Overwritten s.book c at bytes → at + length bytes ≤ length (mem_of s.book) → Apart at (length bytes) (heads_of s.book) → Able s need → length bytes ≤ 1152 → Ready c (span at (length bytes))
 over-ready s c at bytes need w l t h m = record {
   quiet = ap any_pending (over-told s.book c at bytes w (omega arith) t) ∙ h.quiet;
   room = rw w.heads h.room;
@@ -61,14 +64,14 @@ over-ready s c at bytes need w l t h m = record {
 }
 
 module _ (s : Segmented) (c d : Book) (p : ℕ) (k : Kind) (bytes : List ℕ) (o : DiskPtr) (at : ℕ) (r : Reservation)
-    (w : Overwritten s.book c at bytes) (a : Appended c d p k o at (length bytes) r) (l : at + length bytes ≤ length (mem_of s.book)) (t : Apart at (length bytes) (heads_of s.book)) where
-  over-after : told d ≡ told s.book ++ (fresh p k bytes (length bytes + 32) r pending ∷ [])
+    (w : Overwritten s.book c at bytes) (a : Appended c d p k o (span at (length bytes)) r) (l : at + length bytes ≤ length (mem_of s.book)) (t : Apart at (length bytes) (heads_of s.book)) where
+  over-after : told d ≡ told s.book ++ (fresh p k bytes (length bytes + 32) r Pending ∷ [])
   over-after =
       let within : at ≤ length (mem_of s.book) = omega arith in
       let pay : take (length bytes) (drop at (mem_of c)) ≡ bytes = ap (λ (m : List ℕ). take (length bytes) (drop at m)) w.mem ∙ part_new at (length bytes) (mem_of s.book) bytes within refl in
       appended_told c d p k o at (length bytes) r a
       ∙ ap (λ (m : Message). told c ++ (m ∷ [])) (new_message c d p k bytes o at (length bytes) r a pay refl)
-      ∙ ap (λ (ms : List Message). ms ++ (fresh p k bytes (length bytes + 32) r pending ∷ [])) (over-told s.book c at bytes w within t)
+      ∙ ap (λ (ms : List Message). ms ++ (fresh p k bytes (length bytes + 32) r Pending ∷ [])) (over-told s.book c at bytes w within t)
 
   pub over-put : (u : Segmented) → u.book ≡ d → Put s u p k bytes r
   over-put u e = record {
@@ -79,54 +82,50 @@ module _ (s : Segmented) (c d : Book) (p : ℕ) (k : Kind) (bytes : List ℕ) (o
     after = ap told e ∙ over-after;
   }
 
-  pub over-long : length (mem_of d) ≡ length (mem_of s.book)
-  over-long = ap (λ v. length (vec_items v)) a.mem ∙ w.long
+-- with the payload in its place there is room for the message as before, and its pointer gives the payload
+pub over-able : (s t : Segmented) (at : ℕ) (bytes : List ℕ) (need : ℕ) → Overwritten s.book t.book at bytes → t.fill ≡ s.fill → at + length bytes ≤ length (mem_of s.book) → Apart at (length bytes) (heads_of s.book) → Able s need → Able t need
+over-able s t at bytes need w f l p h = record {
+  quiet = ap any_pending (over-told s.book t.book at bytes w (omega arith) p) ∙ h.quiet;
+  room = rw w.heads h.room;
+  low = rw w.next h.low;
+  there = rw f h.there;
+}
 
-  pub over-cap : vec_capacity d.heads ≡ vec_capacity s.book.heads
-  over-cap = a.cap ∙ ap vec_capacity w.heads
-
-  pub over-heads : heads_of d ≡ heads_of s.book ++ (new_head c.next p k o at (length bytes) ∷ [])
-  over-heads = a.heads ∙ ap (λ v. vec_items v ++ (new_head c.next p k o at (length bytes) ∷ [])) w.heads
+pub over-put_on : (s t u : Segmented) (p : ℕ) (k : Kind) (bytes : List ℕ) (at : ℕ) (r : Reservation) → Overwritten s.book t.book at bytes → at + length bytes ≤ length (mem_of s.book) → Apart at (length bytes) (heads_of s.book) → Put t u p k (take (length bytes) (drop at (mem_of t.book))) r → Put s u p k bytes r
+over-put_on s t u p k bytes at r w l a h =
+    let within : at ≤ length (mem_of s.book) = omega arith in
+    let pay : take (length bytes) (drop at (mem_of t.book)) ≡ bytes = ap (λ (m : List ℕ). take (length bytes) (drop at m)) w.mem ∙ part_new at (length bytes) (mem_of s.book) bytes within refl in
+    let P : List ℕ → Type 0 = λ y. Put t u p k y r in
+    let z : Put t u p k bytes r = subst P pay h in
+    record {
+      number = z.number ∙ w.number;
+      stable = z.stable ∙ w.stable;
+      mine = z.mine ∙ w.number;
+      lsn = z.lsn ∙ w.next;
+      after = z.after ∙ ap (λ (ms : List Message). ms ++ (fresh p k bytes (length bytes + 32) r Pending ∷ [])) (over-told s.book t.book at bytes w within a);
+    }
 
 -- the new header lies where it should
-pub new_inline : (segs slots a f l p : ℕ) (k : Kind) (n : ℕ) → a < segs → f + (32 + n) ≤ 4096 → placed segs slots a (f + (32 + n)) (new_head l p k (Inline (a * 4096 + f)) (a * 4096 + f + 32) n) ≡ true
+pub new_inline : (segs slots a f l p : ℕ) (k : Kind) (n : ℕ) → a < segs → f + (32 + n) ≤ 4096 → placed segs slots a (f + (32 + n)) (new_head l p k (Inline (a * 4096 + f)) (span (a * 4096 + f + 32) n)) ≡ true
 new_inline segs slots a f l p k n i h =
     let q : (a * 4096 + f) / 4096 ≡ a = omega arith in
-    let x = new_head l p k (Inline (a * 4096 + f)) (a * 4096 + f + 32) n in
+    let x = new_head l p k (Inline (a * 4096 + f)) (span (a * 4096 + f + 32) n) in
     to_placed segs slots a (f + (32 + n)) x (rw q i) (omega (arith, limit-here a (f + (32 + n)) ((a * 4096 + f) / 4096) q)) (eq-eqb (a * 4096 + f + 32) (a * 4096 + f + 32) refl)
 
-pub new_blob : (segs slots a f l p : ℕ) (k : Kind) (n i : ℕ) → a < segs → f + 32 ≤ 4096 → n ≤ 1152 → i < slots → placed segs slots a (f + 32) (new_head l p k (Blob (a * 4096 + f) (pos i)) (segs * 4096 + i * 1152) n) ≡ true
+pub new_blob : (segs slots a f l p : ℕ) (k : Kind) (n i : ℕ) → a < segs → f + 32 ≤ 4096 → n ≤ 1152 → i < slots → placed segs slots a (f + 32) (new_head l p k (Blob (a * 4096 + f) (pos i)) (span (segs * 4096 + i * 1152) n)) ≡ true
 new_blob segs slots a f l p k n i j h m v =
     let q : (a * 4096 + f) / 4096 ≡ a = omega arith in
-    let x = new_head l p k (Blob (a * 4096 + f) (pos i)) (segs * 4096 + i * 1152) n in
+    let x = new_head l p k (Blob (a * 4096 + f) (pos i)) (span (segs * 4096 + i * 1152) n) in
     to_placed segs slots a (f + 32) x (rw q j) (omega (arith, limit-here a (f + 32) ((a * 4096 + f) / 4096) q)) (rw (lt-ltb i slots v, eq-eqb (segs * 4096 + i * 1152) (segs * 4096 + i * 1152) refl) (le-leb n 1152 m))
-
-pub not_true : (b : Bool) → not b ≡ true → b ≡ false
-not_true true h = sym h
-not_true false h = refl
 
 -- headers never run out
 able-by : (t : Segmented) (need : ℕ) → any_pending (told t.book) ≡ false → t.book.next < 2 ^ 62 → 32 ≤ need → t.fill + need ≤ 4096 → Able t need
 able-by t need quiet low n l =
-    let h = header_left t.segs t.slots t.active t.fill (heads_of t.book) t.lay t.packed t.inside (omega arith) in
+    let h = header_left t.segs t.slots t.active t.fill (heads_of t.book) t.kept.lay t.kept.packed t.kept.inside (omega arith) in
     let e : vec_len t.book.heads ≡ length (heads_of t.book) = t.book.heads.ok.0 in
-    record { quiet = quiet; room = omega (arith, t.roomy); low = low; there = l }
+    record { quiet = quiet; room = omega (arith, t.kept.roomy); low = low; there = l }
 
 -- what was kept of the messages
-quiet-lives : (mem : List ℕ) (hs : List Head) → any_pending (messages mem (lives hs)) ≡ false
-quiet-lives mem [] = refl
-quiet-lives mem (h ∷ hs) = at (quiet-lives mem hs) (live_head h) refl
-  where
-    live-calm : (s : State) → is_live s ≡ true → is_pending s ≡ false
-    live-calm pending e = sym e
-    live-calm live e = refl
-    live-calm dead e = refl
-    live-calm cancelled e = refl
-
-    at : any_pending (messages mem (lives hs)) ≡ false → (b : Bool) → live_head h ≡ b → any_pending (messages mem (cond b (h ∷ lives hs) (lives hs))) ≡ false
-    at k true e = rw (live-calm (state_of h.status) e) k
-    at k false e = k
-
 kept-sheds : (s t : Segmented) (need : ℕ) → any_pending (told s.book) ≡ false → Prepared s t need → Sheds (told s.book) (told t.book)
 kept-sheds s t need quiet a = at a.heads
   where
@@ -163,7 +162,7 @@ reserved s t u p k bytes need fit r quiet fits small a b =
     }
 
 -- a pointer to what is there
-pub point_put : (s : Segmented) (d : Book) (p : ℕ) (k : Kind) (o : DiskPtr) (at n : ℕ) (r : Reservation) → Appended s.book d p k o at n r → at + n ≤ length (mem_of s.book) → (u : Segmented) → u.book ≡ d → Put s u p k (take n (drop at (mem_of s.book))) r
+pub point_put : (s : Segmented) (d : Book) (p : ℕ) (k : Kind) (o : DiskPtr) (at n : ℕ) (r : Reservation) → Appended s.book d p k o (span at n) r → at + n ≤ length (mem_of s.book) → (u : Segmented) → u.book ≡ d → Put s u p k (take n (drop at (mem_of s.book))) r
 point_put s d p k o at n r a l u e =
     let z : n ≡ length (take n (drop at (mem_of s.book))) = simp (length-take, length-drop) (omega arith) in
     record {
@@ -181,28 +180,8 @@ point_same y i r e x = rw e (int_eq_equiv.refl (pos i))
 pub fits_inline : (segs slots a f : ℕ) (b : Book) (n : ℕ) (v : Bool) → n ≤ 512 → ready segs a f b (32 + n) ≡ v → seg_fits segs slots a f b n ≡ v
 fits_inline segs slots a f b n v h e = rw (le-leb n 512 h) e
 
-over_512 : (n : ℕ) → 512 < n → leb n 512 ≡ false
-over_512 n h = at (leb n 512) refl
-  where
-    at : (v : Bool) → leb n 512 ≡ v → leb n 512 ≡ false
-    at true e = absurd (omega (arith, leb-true n 512 e))
-    at false e = e
-
-over_1152 : (n : ℕ) → 1152 < n → leb n 1152 ≡ false
-over_1152 n h = at (leb n 1152) refl
-  where
-    at : (v : Bool) → leb n 1152 ≡ v → leb n 1152 ≡ false
-    at true e = absurd (omega (arith, leb-true n 1152 e))
-    at false e = e
-
-pub unfit_long : (segs slots a f : ℕ) (b : Book) (n : ℕ) → 1152 < n → seg_fits segs slots a f b n ≡ false
-unfit_long segs slots a f b n h = let g : 512 < n = omega arith in rw (over_512 n g, over_1152 n h)
-
-pub unfit_slots : (segs slots a f : ℕ) (b : Book) (n : ℕ) → 512 < n → n ≤ 1152 → some_below (free_slot (heads_of b)) slots ≡ false → seg_fits segs slots a f b n ≡ false
-unfit_slots segs slots a f b n g h e = rw (over_512 n g, le-leb n 1152 h, e)
-
 pub fits-blob : (segs slots a f : ℕ) (b : Book) (n : ℕ) (v : Bool) → 512 < n → n ≤ 1152 → some_below (free_slot (heads_of b)) slots ≡ true → ready segs a f b 32 ≡ v → seg_fits segs slots a f b n ≡ v
-fits-blob segs slots a f b n v g h e k = rw (over_512 n g, le-leb n 1152 h, e) k
+fits-blob segs slots a f b n v g h e k = rw (lt-leb n 512 g, le-leb n 1152 h, e) k
 
 -- swept, it is still prepared, and none points to a free slot
 lives_twice : (hs : List Head) → lives (lives hs) ≡ lives hs
@@ -238,56 +217,53 @@ swept s t u need n a b =
       able = able-by u need calm low n there;
     }
 
-pub slot_vacant : (s t u : Segmented) (need i : ℕ) → Prepared s t need → Swept t u → free_slot (heads_of s.book) i ≡ true → some_head (in_slot i) (heads_of u.book) ≡ false
-slot_vacant s t u need i a b f = rw (swept-heads s t u need a b) (vacant_lives (in_slot i) (heads_of s.book) (not_true (slot_busy i (heads_of s.book)) f))
+pub slot_vacant : (s t u : Segmented) (need i : ℕ) → Prepared s t need → Swept t u → free_slot (heads_of s.book) i ≡ true → list_any (in_slot i) (heads_of u.book) ≡ false
+slot_vacant s t u need i a b f = rw (swept-heads s t u need a b) (vacant_lives (in_slot i) (heads_of s.book) (not-true (slot_busy i (heads_of s.book)) f))
 
 -- a live blob
 pub laid-at : (segs slots a f : ℕ) (hs : List Head) → laid segs slots a f hs ≡ true → (i : ℕ) (d : Head) → i < length hs → placed segs slots a f (get_or hs i d) ≡ true
 laid-at segs slots a f [] t i d h = absurd (omega arith)
-laid-at segs slots a f (x ∷ hs) t zero d h = both_0 (placed segs slots a f x) _ t
-laid-at segs slots a f (x ∷ hs) t (suc i) d h = laid-at segs slots a f hs (both_1 (placed segs slots a f x) _ t) i d (omega arith)
+laid-at segs slots a f (x ∷ hs) t zero d h = (and_parts (placed segs slots a f x) _ t).0
+laid-at segs slots a f (x ∷ hs) t (suc i) d h = laid-at segs slots a f hs (and_parts (placed segs slots a f x) _ t).1 i d (omega arith)
 
 pub same_slot : (i : ℕ) (o u : DiskPtr) → same_ptr o u ≡ true → slot_is i u ≡ true → slot_is i o ≡ true
 same_slot i (Inline x) (Inline y) h k = k
 same_slot i (Inline x) (Blob y j) h k = h
-same_slot i (Blob x l) (Inline y) h k = absurd (let z : ◌≡◌ {A = ℕ} 0 1 = cc in omega arith)
+same_slot i (Blob x l) (Inline y) h k = absurd (false≢true h)
 same_slot i (Blob x l) (Blob y j) h k =
-    let a : l ≡ j = (Decides-int_eq l j).0 (both_1 (eqb x y) _ h) in
+    let a : l ≡ j = (Decides-int_eq l j).0 (and_parts (eqb x y) _ h).1 in
     rw a k
 
 pub home_slot : (segs slots i : ℕ) (o : DiskPtr) (at n : ℕ) → slot_is i o ≡ true → homed segs slots o at n ≡ true → (i < slots) × (at ≡ segs * 4096 + i * 1152) × (n ≤ 1152)
-home_slot segs slots i (Inline x) at n k t = absurd (let z : ◌≡◌ {A = ℕ} 0 1 = cc in omega arith)
-home_slot segs slots i (Blob x (negsuc j)) at n k t = absurd (let z : ◌≡◌ {A = ℕ} 0 1 = cc in omega arith)
+home_slot segs slots i (Inline x) at n k t = absurd (false≢true k)
+home_slot segs slots i (Blob x (negsuc j)) at n k t = absurd (false≢true k)
 home_slot segs slots i (Blob x (pos j)) at n k t =
     let e : j ≡ i = eqb-true j i k in
-    let b = both_1 (ltb j slots) _ t in
-    let l = ltb-true j slots (both_0 (ltb j slots) _ t) in
-    let w = eqb-true at (segs * 4096 + j * 1152) (both_0 (eqb at (segs * 4096 + j * 1152)) _ b) in
-    (omega arith, omega arith, leb-true n 1152 (both_1 (eqb at (segs * 4096 + j * 1152)) _ b))
+    let b = (and_parts (ltb j slots) _ t).1 in
+    let l = ltb-true j slots (and_parts (ltb j slots) _ t).0 in
+    let w = eqb-true at (segs * 4096 + j * 1152) (and_parts (eqb at (segs * 4096 + j * 1152)) _ b).0 in
+    (omega arith, omega arith, leb-true n 1152 (and_parts (eqb at (segs * 4096 + j * 1152)) _ b).1)
 
 pub same-blob-at : (i : ℕ) (r o : DiskPtr) → slot_is i o ≡ true → ((x : ℕ) → same_blob r (Blob x (pos i)) ≡ true) → same_blob r o ≡ true
-same-blob-at i r (Inline x) k f = absurd (let z : ◌≡◌ {A = ℕ} 0 1 = cc in omega arith)
-same-blob-at i r (Blob x (negsuc j)) k f = absurd (let z : ◌≡◌ {A = ℕ} 0 1 = cc in omega arith)
+same-blob-at i r (Inline x) k f = absurd (false≢true k)
+same-blob-at i r (Blob x (negsuc j)) k f = absurd (false≢true k)
 same-blob-at i r (Blob x (pos j)) k f = let e : j ≡ i = eqb-true j i k in rw e (f x)
 
-pub blob-home : (s : Segmented) (l : ℕ) (o : DiskPtr) (i j : ℕ) (x : Head) → LiveIndex (mem_of s.book) (heads_of s.book) l o (Some j) → x ≡ get_or (heads_of s.book) j x → slot_is i o ≡ true → (i < s.slots) × (x.at ≡ s.segs * 4096 + i * 1152) × (x.len ≤ 1152)
+pub blob-home : (s : Segmented) (l : ℕ) (o : DiskPtr) (i j : ℕ) (x : Head) → LiveIndex (mem_of s.book) (heads_of s.book) l o (Some j) → x ≡ get_or (heads_of s.book) j x → slot_is i o ≡ true → (i < s.slots) × (x.place.at ≡ s.segs * 4096 + i * 1152) × (x.place.len ≤ 1152)
 blob-home s l o i j x h at k =
-    let p : placed s.segs s.slots s.active s.fill x ≡ true = ap (placed s.segs s.slots s.active s.fill) at ∙ laid-at s.segs s.slots s.active s.fill (heads_of s.book) s.lay j x h.0 in
+    let p : placed s.segs s.slots s.active s.fill x ≡ true = ap (placed s.segs s.slots s.active s.fill) at ∙ laid-at s.segs s.slots s.active s.fill (heads_of s.book) s.kept.lay j x h.0 in
     let q : same_ptr x.pointer o ≡ true = ap (λ (y : Head). same_ptr y.pointer o) at ∙ (h.1 x).2 in
-    home_slot s.segs s.slots i x.pointer x.at x.len (same_slot i x.pointer o q k) (home s.segs s.slots s.active s.fill x p)
-
-pub blob-there : (b : Book) (l : ℕ) (o : DiskPtr) (j : ℕ) (x : Head) → LiveIndex (mem_of b) (heads_of b) l o (Some j) → x ≡ get_or (heads_of b) j x → is_blob o ≡ true → blob_there (told b) l o ≡ true
-blob-there b l o j x h at k = both_yes (is_blob o) _ k (ap is_some (found-there b l o j x h at))
+    home_slot s.segs s.slots i x.pointer x.place.at x.place.len (same_slot i x.pointer o q k) (home s.segs s.slots s.active s.fill x p)
 
 pub moved : (s t u : Segmented) (p l : ℕ) (o : DiskPtr) (i j : ℕ) (x : Head) (r : Reservation) → LiveIndex (mem_of s.book) (heads_of s.book) l o (Some j) → x ≡ get_or (heads_of s.book) j x → is_blob o ≡ true → slot_is i o ≡ true
     → any_pending (told s.book) ≡ false → Prepared s t 32 → ready s.segs s.active s.fill s.book 32 ≡ true
-    → Put t u p x.kind (take x.len (drop (t.segs * 4096 + i * 1152) (mem_of t.book))) r → ((y : ℕ) → same_blob r.pointer (Blob y (pos i)) ≡ true) → Moved (seg_means s) (seg_means u) p l o r
+    → Put t u p x.kind (take x.place.len (drop (t.segs * 4096 + i * 1152) (mem_of t.book))) r → ((y : ℕ) → same_blob r.pointer (Blob y (pos i)) ≡ true) → Moved (seg_means s) (seg_means u) p l o r
 moved s t u p l o i j x r h at bl sl quiet a fits put same =
     let w = blob-home s l o i j x h at sl in
-    let e : take x.len (drop (t.segs * 4096 + i * 1152) (mem_of t.book)) ≡ payload_of (mem_of s.book) x =
-    ap (λ (n : ℕ). take x.len (drop (n * 4096 + i * 1152) (mem_of t.book))) a.segs ∙ ap (λ v. take x.len (drop (s.segs * 4096 + i * 1152) (vec_items v))) a.mem ∙ ap (λ (n : ℕ). take x.len (drop n (mem_of s.book))) (sym w.1) in
+    let e : take x.place.len (drop (t.segs * 4096 + i * 1152) (mem_of t.book)) ≡ payload_of (mem_of s.book) x =
+    ap (λ (n : ℕ). take x.place.len (drop (n * 4096 + i * 1152) (mem_of t.book))) a.segs ∙ ap (λ v. take x.place.len (drop (s.segs * 4096 + i * 1152) (vec_items v))) a.mem ∙ ap (λ (n : ℕ). take x.place.len (drop n (mem_of s.book))) (sym w.1) in
     let P : List ℕ → Type 0 = λ y. Put t u p x.kind y r in
-    let small : length (payload_of (mem_of s.book) x) ≤ 1152 = simp (length-take) (omega (arith, w.2)) in
+    let small : length (payload_of (mem_of s.book) x) ≤ 1152 = simp length-take (omega (arith, w.2)) in
     record {
       source = message (mem_of s.book) x;
       there = found-there s.book l o j x h at;
@@ -299,26 +275,26 @@ moved s t u p l o i j x r h at bl sl quiet a fits put same =
 -- no message has a slot below 0
 live-below : (segs slots a f : ℕ) (mem : List ℕ) (hs : List Head) (l x i : ℕ) → laid segs slots a f hs ≡ true → live_at (messages mem hs) l (Blob x (negsuc i)) ≡ None
 live-below segs slots a f mem [] l x i t = refl
-live-below segs slots a f mem (h ∷ hs) l x i t = at (live-below segs slots a f mem hs l x i (both_1 (placed segs slots a f h) _ t)) h.pointer refl
+live-below segs slots a f mem (h ∷ hs) l x i t = at (live-below segs slots a f mem hs l x i (and_parts (placed segs slots a f h) _ t).1) h.pointer refl
   where
-    here : homed segs slots h.pointer h.at h.len ≡ true
-    here = home segs slots a f h (both_0 (placed segs slots a f h) _ t)
+    here : homed segs slots h.pointer h.place.at h.place.len ≡ true
+    here = home segs slots a f h (and_parts (placed segs slots a f h) _ t).0
 
     at : live_at (messages mem hs) l (Blob x (negsuc i)) ≡ None → (o : DiskPtr) → h.pointer ≡ o → live_at (messages mem (h ∷ hs)) l (Blob x (negsuc i)) ≡ None
-    at rest (Inline y) e = rw (e, both_no (eqb h.lsn l), both_no (is_live (state_of h.status))) rest
-    at rest (Blob y (pos j)) e = rw (e, both_no (eqb y x), both_no (eqb h.lsn l), both_no (is_live (state_of h.status))) rest
+    at rest (Inline y) e = rw (e, and-false (eqb h.lsn l), and-false (is_live h.status)) rest
+    at rest (Blob y (pos j)) e = rw (e, and-false (eqb y x), and-false (eqb h.lsn l), and-false (is_live h.status)) rest
     at rest (Blob y (negsuc j)) e =
-        let q : homed segs slots (Blob y (negsuc j)) h.at h.len ≡ true = rw e at here in
-        absurd (let z : ◌≡◌ {A = ℕ} 0 1 = cc in omega arith)
+        let q : homed segs slots (Blob y (negsuc j)) h.place.at h.place.len ≡ true = rw e at here in
+        absurd (false≢true q)
 
 -- a pointer without a slot is no live blob's
 pub no_slot : (s : Segmented) (l : ℕ) (o : DiskPtr) → ((i : ℕ) → slot_is i o ≡ false) → blob_there (told s.book) l o ≡ false
 no_slot s l (Inline x) n = refl
-no_slot s l (Blob x (pos i)) n = let z : true ≡ false = sym (eq-eqb i i refl) ∙ n i in absurd (let y : ◌≡◌ {A = ℕ} 0 1 = cc in omega arith)
-no_slot s l (Blob x (negsuc i)) n = ap is_some (live-below s.segs s.slots s.active s.fill (mem_of s.book) (heads_of s.book) l x i s.lay)
+no_slot s l (Blob x (pos i)) n = absurd (true≢false (sym (eq-eqb i i refl) ∙ n i))
+no_slot s l (Blob x (negsuc i)) n = ap is_some (live-below s.segs s.slots s.active s.fill (mem_of s.book) (heads_of s.book) l x i s.kept.lay)
 
 pub there-blob : (b : Book) (l : ℕ) (o : DiskPtr) (j : ℕ) → LiveIndex (mem_of b) (heads_of b) l o (Some j) → is_blob o ≡ true → blob_there (told b) l o ≡ true
-there-blob b l o j h k = both_yes (is_blob o) _ k (ap is_some (h.1 no_head).3)
+there-blob b l o j h k = and_from (is_blob o) _ k (ap is_some (h.1 no_head).3)
 
 pub seg_of : (a f : ℕ) → f + 32 ≤ 4096 → (a * 4096 + f) / 4096 ≡ a
 seg_of a f h = omega arith
@@ -342,12 +318,8 @@ prepared_open s t need c es eo low n l =
       able = able-by t need calm near n l;
     }
 
-either_yes : (a : Bool) → either a true ≡ true
-either_yes true = refl
-either_yes false = refl
-
 pub ready-here : (segs a f : ℕ) (b : Book) (need : ℕ) → b.next < 2 ^ 62 → f + need ≤ 4096 → ready segs a f b need ≡ true
 ready-here segs a f b need l h = rw (lt-ltb b.next (2 ^ 62) l, le-leb (f + need) 4096 h) refl
 
 pub ready_open : (segs a f : ℕ) (b : Book) (need : ℕ) → b.next < 2 ^ 62 → some_below (free_seg a (heads_of b)) segs ≡ true → ready segs a f b need ≡ true
-ready_open segs a f b need l h = rw (lt-ltb b.next (2 ^ 62) l, h) (either_yes (leb (f + need) 4096))
+ready_open segs a f b need l h = rw (lt-ltb b.next (2 ^ 62) l, h) (or-true (leb (f + need) 4096))

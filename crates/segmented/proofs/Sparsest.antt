@@ -1,18 +1,18 @@
 -- The search for the segment with the fewest live messages. Assumes nothing.
 use Rattle.std.proofs.Common.{◌≡◌, ℕ, zero, suc, ◌+◌, ◌<◌, ◌≤◌, Bool, false, ◌⊎◌, List, [], ◌∷◌, ◌++◌, length, get_or, take, Some, None, Option, sym, refl, ap, ◌∙◌, subst, inl, inr, arith}
-use Rattle.std.proofs.lemmas.Bool.{cases_lt}
+use Rattle.std.proofs.lemmas.Bool.{cases_lt, or_parts}
 use Rattle.std.proofs.lemmas.List.{take_more}
-use Rattle.logs.specs.Meaning.{both}
 use Rattle.book.specs.declared.head.Head.{Head}
 use Rattle.book.specs.Heads.{live_head}
-use Rattle.logs.proofs.Laws.{either_left, either_right}
-use Rattle.segmented.specs.Layout.{some_head, in_seg, live_in, one_if, count_live, Rival, Sparse, Lowest}
+use Rattle.segmented.specs.Layout.{in_seg, live_in, one_if, count_live, Rival, Sparse, Lowest}
+use Rattle.std.specs.Prelude.{◌&&◌}
+use Rattle.std.specs.List.{list_any}
 
-count_push : (q : ℕ) (hs : List Head) (x : Head) → count_live q (hs ++ (x ∷ [])) ≡ count_live q hs + one_if (both (live_head x) (in_seg q x))
+count_push : (q : ℕ) (hs : List Head) (x : Head) → count_live q (hs ++ (x ∷ [])) ≡ count_live q hs + one_if (live_head x && in_seg q x)
 count_push q [] x = omega arith
 count_push q (h ∷ hs) x = let e = count_push q hs x in omega arith
 
-pub count_more : (q : ℕ) (hs : List Head) (i : ℕ) (d : Head) (b : Bool) → i < length hs → both (live_head (get_or hs i d)) (in_seg q (get_or hs i d)) ≡ b → count_live q (take (i + 1) hs) ≡ count_live q (take i hs) + one_if b
+pub count_more : (q : ℕ) (hs : List Head) (i : ℕ) (d : Head) (b : Bool) → i < length hs → (live_head (get_or hs i d) && in_seg q (get_or hs i d)) ≡ b → count_live q (take (i + 1) hs) ≡ count_live q (take i hs) + one_if b
 count_more q hs i d b h e = ap (count_live q) (take_more hs i d h) ∙ count_push q (take i hs) (get_or hs i d) ∙ ap (λ (x : Bool). count_live q (take i hs) + one_if x) e
 
 pub count_take : (q i : ℕ) (hs : List Head) → count_live q (take i hs) ≤ count_live q hs
@@ -36,9 +36,6 @@ Rival-low hs a n m c h r k l g = at (r k l g)
     at : (count_live k hs ≡ 0) ⊎ (m ≤ count_live k hs) → (count_live k hs ≡ 0) ⊎ (c ≤ count_live k hs)
     at (inl e) = inl e
     at (inr e) = inr (omega arith)
-
-pub Sparse_start : (hs : List Head) (a : ℕ) → Sparse hs a 0 4 None
-Sparse_start hs a = (refl, λ k h g. absurd (omega arith))
 
 pub Sparse-low : (hs : List Head) (a n m : ℕ) (b : Option ℕ) → Sparse hs a n m b → (0 < m) × (m ≤ 4)
 Sparse-low hs a n m None s = (omega (arith, s.0), omega (arith, s.0))
@@ -65,11 +62,11 @@ Sparse_best hs a n m c b s g e p l =
     (omega arith, g, e, p, omega (arith, w.1), Rival-more hs a n c (Rival-low hs a n m c (omega arith) r) (λ _. inr (omega arith)), Rival-low hs a n m (c + 1) (omega arith) r)
 
 -- a segment with a live message has a lowest page
-none_counted : (q : ℕ) (hs : List Head) → some_head (live_in q) hs ≡ false → count_live q hs ≡ 0
+none_counted : (q : ℕ) (hs : List Head) → list_any (live_in q) hs ≡ false → count_live q hs ≡ 0
 none_counted q [] v = refl
 none_counted q (h ∷ hs) v =
-    let e = none_counted q hs (either_right (live_in q h) (some_head (live_in q) hs) v) in
-    let d : one_if (live_in q h) ≡ 0 = ap one_if (either_left (live_in q h) (some_head (live_in q) hs) v) in
+    let e = none_counted q hs (or_parts (live_in q h) (list_any (live_in q) hs) v).1 in
+    let d : one_if (live_in q h) ≡ 0 = ap one_if (or_parts (live_in q h) (list_any (live_in q) hs) v).0 in
     omega arith
 
 pub Sparse_paged : (hs gs : List Head) (a n m q : ℕ) (r l : Option ℕ) → gs ≡ hs → Sparse hs a n m r → r ≡ Some q → Lowest q gs l → l ≡ None → ⊥
@@ -77,5 +74,5 @@ Sparse_paged hs gs a n m q r l same s e w z =
     let P : Option ℕ → Type 0 = λ y. Sparse hs a n m y in
     let Q : Option ℕ → Type 0 = λ y. Lowest q gs y in
     let t = subst P e s in
-    let v : some_head (live_in q) hs ≡ false = ap (some_head (live_in q)) (sym same) ∙ subst Q z w in
+    let v : list_any (live_in q) hs ≡ false = ap (list_any (live_in q)) (sym same) ∙ subst Q z w in
     omega (arith, none_counted q hs v, t.2, t.3)

@@ -1,23 +1,29 @@
 -- What a segmented log means. Assumes nothing.
-use Rattle.std.specs.Prelude.{◌≡◌, ℕ, ◌+◌, ◌*◌, ◌^◌, ◌<◌, ◌≤◌, Bool, true, false, cond, ◌⊎◌, List, [], ◌∷◌, ◌++◌, length, Some, None, vec_len, vec_capacity, Option, nat_le, nat_lt}
+use Rattle.std.specs.Prelude.{Ok, Err, Result, ◌/◌, ◌≡◌, ℕ, ◌+◌, ◌*◌, ◌^◌, ◌<◌, ◌≤◌, Bool, true, false, cond, ◌⊎◌, List, [], ◌∷◌, ◌++◌, length, Some, None, vec_len, vec_capacity, Option, nat_le, nat_lt, ◌&&◌, ◌||◌}
 use Rattle.logs.specs.declared.messages.Kind.{Kind}
 use Rattle.logs.specs.declared.reservation.Reservation.{Reservation}
-use Rattle.logs.specs.Meaning.{Meaning, both, either, pending, any_pending}
+use Rattle.logs.specs.Meaning.{Meaning, any_pending}
 use Rattle.logs.specs.Clauses.{fresh}
 use Rattle.book.specs.declared.book.Book.{Book}
 use Rattle.book.specs.declared.head.Head.{Head}
+use Rattle.book.specs.declared.head.Place.{Place}
+use Rattle.fault.specs.declared.disk_pointer.DiskPtr.{DiskPtr}
+use Rattle.fault.specs.Pointers.{lid_of}
+use Rattle.logs.specs.declared.log_fault.LogFault.{LogFault}
+use Rattle.logs.specs.declared.log_fault.LogFault.TheVariants.{Full}
 use Rattle.book.specs.Heads.{lives}
-use Rattle.book.specs.Books.{heads_of, told, book_means, Compacted}
+use Rattle.book.specs.Books.{heads_of, told, book_means, new_head, Ready, Compacted}
 use Rattle.segmented.specs.declared.segmented.Segmented.{Segmented}
-use Rattle.segmented.specs.Layout.{free_seg, free_slot, some_below, Rival, Sparse, Lowest}
+use Rattle.segmented.specs.Layout.{free_seg, free_slot, some_below, placed, Rival, Sparse, Lowest}
+use Rattle.logs.specs.declared.messages.Status.TheVariants.{Pending}
 
 -- there is a position, and so many bytes in the active segment or a free one
 abbrev pub room_among : ℕ → ℕ → ℕ → ℕ → List Head → ℕ → Bool
-room_among segs a f next hs need = both (nat_lt next (2 ^ 62)) (either (nat_le (f + need) 4096) (some_below (free_seg a hs) segs))
+room_among segs a f next hs need = nat_lt next (2 ^ 62) && ((nat_le (f + need) 4096) || some_below (free_seg a hs) segs)
 
 -- a payload of n bytes fits: up to 512 in a segment, up to 1,152 in a free slot
 abbrev pub fits_among : ℕ → ℕ → ℕ → ℕ → ℕ → List Head → ℕ → Bool
-fits_among segs slots a f next hs n = cond (nat_le n 512) (room_among segs a f next hs (32 + n)) (both (nat_le n 1152) (both (some_below (free_slot hs) slots) (room_among segs a f next hs 32)))
+fits_among segs slots a f next hs n = cond (nat_le n 512) (room_among segs a f next hs (32 + n)) (nat_le n 1152 && (some_below (free_slot hs) slots && room_among segs a f next hs 32))
 
 -- the same of a book
 abbrev pub ready : ℕ → ℕ → ℕ → Book → ℕ → Bool
@@ -51,9 +57,9 @@ pub record Prepared (s t : Segmented) (need : ℕ) : Type 0 where
   pub slots : t.slots ≡ s.slots
   pub able : Able t need
 
-abbrev pub OnReady : Segmented → Segmented → ℕ → Bool → Type 0
-OnReady s t need true = Prepared s t need × (ready s.segs s.active s.fill s.book need ≡ true)
-OnReady s t need false = (t ≡ s) × (ready s.segs s.active s.fill s.book need ≡ false)
+abbrev pub OnReady : Segmented → Segmented → ℕ → ℕ → Result Unit LogFault → Type 0
+OnReady s t p need (Ok u) = Prepared s t need × (ready s.segs s.active s.fill s.book need ≡ true)
+OnReady s t p need (Err f) = (t ≡ s) × (f ≡ Full p) × (ready s.segs s.active s.fill s.book need ≡ false)
 
 -- dead and cancelled messages have left
 pub record Swept (s t : Segmented) : Type 0 where
@@ -62,13 +68,21 @@ pub record Swept (s t : Segmented) : Type 0 where
   pub slots : t.slots ≡ s.slots
   pub fill : t.fill ≡ s.fill
 
+-- one more message may be added, whose header lies next in the active segment and takes so many bytes of it
+pub record Next (s : Segmented) (p : ℕ) (k : Kind) (o : DiskPtr) (place : Place) (taken : ℕ) : Type 0 where
+  pub ready : Ready s.book place
+  pub here : lid_of o / 4096 ≡ s.active
+  pub least : 32 ≤ taken
+  pub there : s.fill + taken ≤ 4096
+  pub placed : placed s.segs s.slots s.active (s.fill + taken) (new_head s.book.next p k o place) ≡ true
+
 -- one more message, pending
 pub record Put (s t : Segmented) (p : ℕ) (k : Kind) (bytes : List ℕ) (r : Reservation) : Type 0 where
   pub number : t.book.number ≡ s.book.number
   pub stable : t.book.stable ≡ s.book.stable
   pub mine : r.log ≡ s.book.number
   pub lsn : r.lsn ≡ s.book.next
-  pub after : told t.book ≡ told s.book ++ (fresh p k bytes (length bytes + 32) r pending ∷ [])
+  pub after : told t.book ≡ told s.book ++ (fresh p k bytes (length bytes + 32) r Pending ∷ [])
 
 -- of the closed segments, the lowest of those with the fewest live messages, 1 to 3: its lowest page, and where it starts
 abbrev pub Proposes : Segmented → Option (ℕ × ℕ) → Type 0

@@ -1,74 +1,26 @@
-ghost use Rattle.std.specs.Prelude.{◌≡◌, ℕ, ◌<◌, ◌≤◌};
-ghost use Rattle.logs.specs.Meaning.{both};
-ghost use Rattle.book.specs.Heads.{live_head};
+ghost use Rattle.std.specs.Prelude.{◌≡◌, ℕ, ◌/◌};
 ghost use Rattle.fault.specs.Pointers.{lid_of};
-ghost use Rattle.segmented.specs.Layout.{slot_is, busy_head, seg_busy, slot_busy, in_seg, in_slot, SlotOf, Sparse, at_most, Lowest};
+ghost use Rattle.segmented.specs.Layout.{slot_is, busy_head, seg_busy, slot_busy, live_in, SlotOf, Sparse, Lowest};
 
 use book::Head;
-use book::booking::is_live;
 use fault::{DiskPtr, PageId};
 use logs::Status;
 
-pub(crate) fn in_slot(pointer: DiskPtr, i: u64) -> bool
-    ensures { result ≡ slot_is i pointer }
+// The bytes of a segment.
+pub(crate) const SEGMENT_LEN: usize = 4096;
+
+// Whether the message is live or pending.
+fn is_busy(h: &Head) -> bool
+    ensures { result ≡ busy_head h.now }
 {
-    match pointer {
-        DiskPtr::Inline(_) => false,
-        DiskPtr::Blob(_, j) => j >= 0 && j as u64 == i,
-    }
+    matches!(h.status, Status::Pending | Status::Live)
 }
 
-fn is_busy(h: Head) -> bool
-    ensures { result ≡ busy_head h }
+// The segment that a pointer points into.
+fn segment_of(pointer: DiskPtr) -> u64
+    ensures { result ≡ lid_of pointer / 4096 }
 {
-    match h.status {
-        Status::Pending => true,
-        Status::Live => true,
-        Status::Dead => false,
-        Status::Cancelled => false,
-    }
-}
-
-fn lies_in(h: Head, q: u64) -> bool
-    ensures { result ≡ both (busy_head h) (in_seg q h) }
-{
-    if !is_busy(h) {
-        return false;
-    }
-    h.pointer.lid() / 4096 == q
-}
-
-fn points_to(h: Head, i: u64) -> bool
-    ensures { result ≡ both (busy_head h) (in_slot i h) }
-{
-    if !is_busy(h) {
-        return false;
-    }
-    in_slot(h.pointer, i)
-}
-
-// Whether a live or pending message lies in the segment.
-pub(crate) fn seg_busy(heads: &[Head], q: u64) -> bool
-    ensures { result ≡ seg_busy q heads.now }
-{
-    for h in heads {
-        if lies_in(*h, q) {
-            return true;
-        }
-    }
-    false
-}
-
-// Whether a live or pending message points to the slot.
-pub(crate) fn slot_busy(heads: &[Head], i: u64) -> bool
-    ensures { result ≡ slot_busy i heads.now }
-{
-    for h in heads {
-        if points_to(*h, i) {
-            return true;
-        }
-    }
-    false
+    pointer.lid() / SEGMENT_LEN as u64
 }
 
 // The blob slot of a pointer.
@@ -77,21 +29,42 @@ pub(crate) fn slot_of(pointer: DiskPtr) -> Option<u64>
 {
     match pointer {
         DiskPtr::Inline(_) => None,
-        DiskPtr::Blob(_, i) => { if i < 0 { None } else { Some(i as u64) } }
+        DiskPtr::Blob(_, i) => u64::try_from(i).ok(),
     }
+}
+
+// Whether a pointer points to the slot.
+fn in_slot(pointer: DiskPtr, i: u64) -> bool
+    ensures { result ≡ slot_is i pointer }
+{
+    slot_of(pointer) == Some(i)
+}
+
+// Whether a live or pending message lies in the segment.
+pub(crate) fn seg_busy(heads: &[Head], q: u64) -> bool
+    ensures { result ≡ seg_busy q heads.now }
+{
+    heads
+        .iter()
+        .any(|h| is_busy(h) && segment_of(h.pointer) == q)
+}
+
+// Whether a live or pending message points to the slot.
+pub(crate) fn slot_busy(heads: &[Head], i: u64) -> bool
+    ensures { result ≡ slot_busy i heads.now }
+{
+    heads.iter().any(|h| is_busy(h) && in_slot(h.pointer, i))
 }
 
 // Whether a live message lies in the segment.
-fn live_in(h: Head, q: u64) -> bool
-    ensures { result ≡ both (live_head h) (in_seg q h) }
+fn live_in(h: &Head, q: u64) -> bool
+    ensures { result ≡ live_in q h.now }
 {
-    if !is_live(h.status) {
-        return false;
-    }
-    h.pointer.lid() / 4096 == q
+    h.status == Status::Live && segment_of(h.pointer) == q
 }
 
 // The closed segment with the fewest live messages, 1 to 3, the lowest among equals.
+// Kept: the customer asked for these labelled walks, one in the other.
 pub(crate) fn sparse_segment(heads: &[Head], segs: usize, active: usize) -> Option<usize>
     ensures { (m : ℕ) × Sparse heads.now active segs m result }
 {
@@ -103,7 +76,7 @@ pub(crate) fn sparse_segment(heads: &[Head], segs: usize, active: usize) -> Opti
         }
         let mut count = 0usize;
         for h in heads {
-            if !live_in(*h, q as u64) {
+            if !live_in(h, q as u64) {
                 continue;
             }
             count += 1;
@@ -120,28 +93,9 @@ pub(crate) fn sparse_segment(heads: &[Head], segs: usize, active: usize) -> Opti
     best
 }
 
-fn at_most(low: Option<PageId>, page: PageId) -> bool
-    ensures { result ≡ at_most low page }
-{
-    match low {
-        Some(p) => p <= page,
-        None => false,
-    }
-}
-
 // The lowest page of a live message in the segment.
 pub(crate) fn lowest_page(heads: &[Head], q: u64) -> Option<PageId>
     ensures { Lowest q heads.now result }
 {
-    let mut low = None;
-    for h in heads {
-        if !live_in(*h, q) {
-            continue;
-        }
-        if at_most(low, h.page) {
-            continue;
-        }
-        low = Some(h.page);
-    }
-    low
+    heads.iter().filter(|h| live_in(h, q)).map(|h| h.page).min()
 }

@@ -1,84 +1,69 @@
-ghost use Rattle.std.specs.Prelude.{◌≡◌, ℕ, pos, ◌+◌, ◌*◌, ◌^◌, ◌<◌, ◌≤◌, max, true, false, List, [], ◌∷◌, ◌++◌, length, take, drop, IfOk, vec_len, vec_capacity};
+ghost use Rattle.std.specs.Prelude.{◌≡◌, ℕ, pos, ◌+◌, ◌*◌, ◌^◌, ◌<◌, ◌≤◌, max, true, false, length, take, drop, IfOk};
+ghost use Rattle.std.specs.List.{list_any};
 ghost use Rattle.fault.specs.declared.disk_pointer.DiskPtr.TheVariants as pointer;
 ghost use Rattle.logs.specs.Meaning.{any_pending, same_blob};
 ghost use Rattle.logs.specs.Clauses.{OnReserve};
-ghost use Rattle.book.specs.Books.{heads_of, mem_of, told};
-ghost use Rattle.segmented.specs.Layout.{free_seg, free_slot, Picked, some_head, in_slot};
-ghost use Rattle.segmented.specs.Segments.{seg_means, empty_segmented, OnReady, Able, Swept, Put, Proposes};
+ghost use Rattle.book.specs.Books.{heads_of, mem_of, told, Appended};
+ghost use Rattle.segmented.specs.Layout.{free_seg, free_slot, Picked, in_slot};
+ghost use Rattle.segmented.specs.Segments.{seg_means, empty_segmented, OnReady, Able, Next, Swept, Put, Proposes};
 
-use crate::scans::{lowest_page, seg_busy, slot_busy, slot_of, sparse_segment};
+use crate::scans::{SEGMENT_LEN, lowest_page, seg_busy, slot_busy, slot_of, sparse_segment};
 use crate::segmented::Segmented;
-use book::{Book, Head};
-use fault::{DiskPtr, LogOffset, PageId};
-use logs::{CacheInfo, Event, Kind, Log, LogFault, Position, Reservation, Returned};
+use book::{Book, Head, Place};
+use fault::{BlobPointer, DiskPtr, LogOffset, PageId};
+use logs::{
+    CacheInfo, Event, HEADER_LEN, Kind, Log, LogFault, MAX_PAYLOAD, POSITION_END, Position,
+    Reservation, Returned,
+};
 use std::alloc::{AllocError, Global};
 
+// The headers that a segment has room for.
+const SEGMENT_HEADERS: usize = SEGMENT_LEN / HEADER_LEN;
+
+// The longest payload that lies in a segment.
+const MAX_INLINE: usize = 512;
+
 // Where a message lies that points to a slot.
-fn blob_at(offset: usize, i: usize) -> DiskPtr
+fn blob_at(lid: usize, i: usize) -> DiskPtr
     requires { i < 2 ^ 63 }
-    ensures { result ≡ pointer.Blob offset (pos i) }
+    ensures { result ≡ pointer.Blob lid (pos i) }
 {
-    DiskPtr::Blob(offset as u64, i as i64)
+    DiskPtr::Blob(lid as LogOffset, i as BlobPointer)
 }
 
 impl Segmented {
-    fn seg_free(&self, q: usize) -> bool
-        ensures { result ≡ free_seg self.now.active (heads_of self.now.book) q }
-    {
-        if q == self.active {
-            return false;
-        }
-        !seg_busy(self.book.heads.as_slice(), q as u64)
-    }
-
-    fn slot_free(&self, i: usize) -> bool
-        ensures { result ≡ free_slot (heads_of self.now.book) i }
-    {
-        !slot_busy(self.book.heads.as_slice(), i as u64)
-    }
-
     // The lowest free segment.
     fn free_segment(&self) -> Option<usize>
         ensures { Picked (free_seg self.now.active (heads_of self.now.book)) self.now.segs result }
     {
-        for q in 0..self.segs {
-            if self.seg_free(q) {
-                return Some(q);
-            }
-        }
-        None
+        (0..self.segs).find(|q| *q != self.active && !seg_busy(&self.book.heads, *q as u64))
     }
 
     // The lowest free blob slot.
     fn free_slot(&self) -> Option<usize>
         ensures { Picked (free_slot (heads_of self.now.book)) self.now.slots result }
     {
-        for i in 0..self.slots {
-            if self.slot_free(i) {
-                return Some(i);
-            }
-        }
-        None
+        (0..self.slots).find(|i| !slot_busy(&self.book.heads, *i as u64))
     }
 
-    // Makes room for so many bytes and a message, unless there is none.
-    fn make_ready(&mut self, need: usize) -> bool
-        requires { (any_pending (told self.old.book) ≡ false) × ((32 ≤ need) × (need ≤ 4096)) }
-        ensures { OnReady self.old self.new need result }
+    // Makes room for so many bytes and a message of the page, or says that there is none.
+    fn make_ready(&mut self, pid: PageId, need: usize) -> Result<(), LogFault>
+        requires quiet { any_pending (told self.old.book) ≡ false }
+        requires least { 32 ≤ need }
+        requires most { need ≤ 4096 }
+        ensures { OnReady self.old self.new pid need result }
     {
-        if self.book.next >= 4611686018427387904 {
-            return false;
+        if self.book.next >= POSITION_END {
+            return Err(LogFault::Full(pid));
         }
-        if self.fill + need <= 4096 {
-            return true;
+        if self.fill + need <= SEGMENT_LEN {
+            return Ok(());
         }
-        let Some(q) = self.free_segment() else {
-            return false;
-        };
+        let q = self.free_segment().ok_or(LogFault::Full(pid))?;
         self.book.compact();
         self.active = q;
         self.fill = 0;
-        true
+        Ok(())
     }
 
     // Dead and cancelled messages leave, so that none points to a free slot.
@@ -88,49 +73,78 @@ impl Segmented {
         self.book.compact();
     }
 
-    // A pending message with its payload in the active segment.
-    fn put_inline(&mut self, pid: PageId, kind: Kind, payload: &[u8]) -> Reservation
-        requires { (Able self.old (32 + length payload.now)) × (length payload.now ≤ 512) }
-        ensures { Put self.old self.new pid kind payload.now result }
+    // Where the next header lies.
+    fn next_lid(&self) -> usize
+        ensures { result ≡ self.now.active * 4096 + self.now.fill }
     {
-        let n = payload.len();
-        let offset = self.active * 4096 + self.fill;
-        let at = offset + 32;
-        self.book.overwrite(at, payload);
-        let r = self
-            .book
-            .append(pid, kind, DiskPtr::Inline(offset as u64), at, n);
-        self.fill = self.fill + (32 + n);
-        r
+        self.active * SEGMENT_LEN + self.fill
     }
 
-    // A pending message with its payload in a slot that none points to.
-    fn put_blob(&mut self, pid: PageId, kind: Kind, payload: &[u8], i: usize) -> Reservation
-        requires { (Able self.old 32) × ((length payload.now ≤ 1152) × ((i < self.old.slots) × (some_head (in_slot i) (heads_of self.old.book) ≡ false))) }
+    // Where the payload of a slot lies.
+    fn slot_place(&self, i: usize, len: usize) -> Place
+        requires { i < self.now.slots }
+        ensures at { result.at ≡ self.now.segs * 4096 + i * 1152 }
+        ensures len { result.len ≡ len }
+    {
+        let at = self.segs * SEGMENT_LEN + i * MAX_PAYLOAD;
+        Place { at, len }
+    }
+
+    // A pending message, whose header lies next in the active segment and takes so many bytes of it.
+    fn put(
+        &mut self,
+        pid: PageId,
+        kind: Kind,
+        pointer: DiskPtr,
+        place: Place,
+        taken: usize,
+    ) -> Reservation
+        requires { Next self.old pid kind pointer place taken }
+        ensures { Appended self.old.book self.new.book pid kind pointer place result }
+    {
+        let reservation = self.book.append(pid, kind, pointer, place);
+        self.fill += taken;
+        reservation
+    }
+
+    // A pending message with its payload in the active segment.
+    fn put_inline(&mut self, pid: PageId, kind: Kind, payload: &[u8]) -> Reservation
+        requires able { Able self.old (32 + length payload.now) }
+        requires short { length payload.now ≤ 512 }
         ensures { Put self.old self.new pid kind payload.now result }
     {
-        let n = payload.len();
-        let offset = self.active * 4096 + self.fill;
-        let at = self.segs * 4096 + i * 1152;
+        let len = payload.len();
+        let lid = self.next_lid();
+        let at = lid + HEADER_LEN;
         self.book.overwrite(at, payload);
-        let pointer = blob_at(offset, i);
-        let r = self.book.append(pid, kind, pointer, at, n);
-        self.fill = self.fill + 32;
-        r
+        let pointer = DiskPtr::Inline(lid as LogOffset);
+        self.put(pid, kind, pointer, Place { at, len }, HEADER_LEN + len)
     }
 
     // A pending message that points to a slot.
     fn put_pointer(&mut self, pid: PageId, kind: Kind, i: usize, len: usize) -> Reservation
-        requires { (Able self.old 32) × ((len ≤ 1152) × (i < self.old.slots)) }
+        requires able { Able self.old 32 }
+        requires short { len ≤ 1152 }
+        requires slot { i < self.old.slots }
         ensures put { Put self.old self.new pid kind (take len (drop (self.old.segs * 4096 + i * 1152) (mem_of self.old.book))) result }
         ensures same { (x : ℕ) → same_blob result.pointer (pointer.Blob x (pos i)) ≡ true }
     {
-        let offset = self.active * 4096 + self.fill;
-        let at = self.segs * 4096 + i * 1152;
-        let pointer = blob_at(offset, i);
-        let r = self.book.append(pid, kind, pointer, at, len);
-        self.fill = self.fill + 32;
-        r
+        let pointer = blob_at(self.next_lid(), i);
+        let place = self.slot_place(i, len);
+        self.put(pid, kind, pointer, place, HEADER_LEN)
+    }
+
+    // A pending message with its payload in a slot that none points to.
+    fn put_blob(&mut self, pid: PageId, kind: Kind, payload: &[u8], i: usize) -> Reservation
+        requires able { Able self.old 32 }
+        requires short { length payload.now ≤ 1152 }
+        requires slot { i < self.old.slots }
+        requires vacant { list_any (in_slot i) (heads_of self.old.book) ≡ false }
+        ensures { Put self.old self.new pid kind payload.now result }
+    {
+        let place = self.slot_place(i, payload.len());
+        self.book.overwrite(place.at, payload);
+        self.put_pointer(pid, kind, i, place.len)
     }
 
     // Reserves a payload of at most 512 bytes.
@@ -140,15 +154,12 @@ impl Segmented {
         kind: Kind,
         payload: &[u8],
     ) -> Result<Reservation, LogFault>
-        requires { (any_pending (told self.old.book) ≡ false) × (length payload.now ≤ 512) }
+        requires quiet { any_pending (told self.old.book) ≡ false }
+        requires short { length payload.now ≤ 512 }
         ensures { OnReserve (seg_means self.old) (seg_means self.new) pid kind payload.now result }
     {
-        let need = 32 + payload.len();
-        if !self.make_ready(need) {
-            return Err(LogFault::Full(pid));
-        }
-        let r = self.put_inline(pid, kind, payload);
-        Ok(r)
+        self.make_ready(pid, HEADER_LEN + payload.len())?;
+        Ok(self.put_inline(pid, kind, payload))
     }
 
     // Reserves a payload above 512 bytes.
@@ -158,21 +169,17 @@ impl Segmented {
         kind: Kind,
         payload: &[u8],
     ) -> Result<Reservation, LogFault>
-        requires { (any_pending (told self.old.book) ≡ false) × (512 < length payload.now) }
+        requires quiet { any_pending (told self.old.book) ≡ false }
+        requires long { 512 < length payload.now }
         ensures { OnReserve (seg_means self.old) (seg_means self.new) pid kind payload.now result }
     {
-        if payload.len() > 1152 {
+        if payload.len() > MAX_PAYLOAD {
             return Err(LogFault::Full(pid));
         }
-        let Some(i) = self.free_slot() else {
-            return Err(LogFault::Full(pid));
-        };
-        if !self.make_ready(32) {
-            return Err(LogFault::Full(pid));
-        }
+        let i = self.free_slot().ok_or(LogFault::Full(pid))?;
+        self.make_ready(pid, HEADER_LEN)?;
         self.sweep();
-        let r = self.put_blob(pid, kind, payload, i);
-        Ok(r)
+        Ok(self.put_blob(pid, kind, payload, i))
     }
 
     // An empty log with this number, of so many segments, at least one, and so many blob slots.
@@ -184,11 +191,12 @@ impl Segmented {
     ) -> Result<Segmented, AllocError>
         ensures { IfOk result (λ t. seg_means t ≡ empty_segmented number (max 1 segments) slots) }
     {
-        let segs = if segments == 0 { 1 } else { segments as usize };
-        let slots = slots as usize;
-        let heads = Vec::with_capacity(heap, segs * 128)?;
+        let segs = usize::from(segments.max(1));
+        let slots = usize::from(slots);
+        let heads = Vec::with_capacity(heap, segs * SEGMENT_HEADERS)?;
         let mut mem = Vec::new(heap);
-        mem.resize(segs * 4096 + slots * 1152, 0)?;
+        mem.resize(segs * SEGMENT_LEN + slots * MAX_PAYLOAD, 0)?;
+        // Kept: here and on the tape; a function of three of these five fields would say less of where a log begins.
         let book = Book {
             number,
             stable: 0,
@@ -209,9 +217,9 @@ impl Segmented {
     pub fn sparsest(&self) -> Option<(PageId, LogOffset)>
         ensures { Proposes self.now result }
     {
-        let q = sparse_segment(self.book.heads.as_slice(), self.segs, self.active)?;
-        let page = lowest_page(self.book.heads.as_slice(), q as u64)?;
-        Some((page, q as u64 * 4096))
+        let q = sparse_segment(&self.book.heads, self.segs, self.active)?;
+        let page = lowest_page(&self.book.heads, q as u64)?;
+        Some((page, (q * SEGMENT_LEN) as LogOffset))
     }
 
     // The headers of its messages, in order of reserving.
@@ -222,6 +230,7 @@ impl Segmented {
     }
 }
 
+// Kept: what passes a call on to the book is a line; a trait over both logs would have to lend the book past their ghost fields.
 impl Log for Segmented {
     ghost means = { seg_means };
 
@@ -234,10 +243,11 @@ impl Log for Segmented {
         if self.book.any_pending() {
             return Err(LogFault::Pending(pid));
         }
-        if payload.len() > 512 {
-            return self.reserve_blob(pid, kind, payload);
+        if payload.len() > MAX_INLINE {
+            self.reserve_blob(pid, kind, payload)
+        } else {
+            self.reserve_inline(pid, kind, payload)
         }
-        self.reserve_inline(pid, kind, payload)
     }
 
     fn complete(&mut self, reservation: Reservation) -> Result<(), Returned> {
@@ -270,21 +280,15 @@ impl Log for Segmented {
         lsn: Position,
         pointer: DiskPtr,
     ) -> Result<Reservation, LogFault> {
-        let Some(i) = slot_of(pointer) else {
-            return Err(LogFault::NoMessage(pid, pointer));
-        };
-        let Some(j) = self.book.live_at(lsn, pointer) else {
-            return Err(LogFault::NoMessage(pid, pointer));
-        };
+        let fault = LogFault::NoMessage(pid, pointer);
+        let i = slot_of(pointer).ok_or(fault)?;
+        let j = self.book.live_at(lsn, pointer).ok_or(fault)?;
         if self.book.any_pending() {
             return Err(LogFault::Pending(pid));
         }
         let h = self.book.heads[j];
-        if !self.make_ready(32) {
-            return Err(LogFault::Full(pid));
-        }
-        let r = self.put_pointer(pid, h.kind, i as usize, h.len);
-        Ok(r)
+        self.make_ready(pid, HEADER_LEN)?;
+        Ok(self.put_pointer(pid, h.kind, i as usize, h.place.len))
     }
 
     fn propose(&self) -> Option<(PageId, LogOffset)> {

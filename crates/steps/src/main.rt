@@ -12,29 +12,6 @@ use shown::{show_entry, show_messages, show_proposal, show_read};
 use std::io;
 use tape::Tape;
 
-fn entry_of(reservation: &Reservation) -> CacheInfo {
-    CacheInfo {
-        ts: 0,
-        lsn: reservation.lsn(),
-        pointer: reservation.pointer(),
-        log_size: 0,
-    }
-}
-
-// Ends a reservation that no log takes.
-fn give_up(reservation: Reservation) {
-    let log = reservation.log();
-    let lsn = reservation.lsn();
-    let pointer = reservation.pointer();
-    reservation.spend(log, lsn, pointer).unwrap();
-}
-
-fn refusal(returned: Returned) -> LogFault {
-    let Returned { reservation, fault } = returned;
-    give_up(reservation);
-    fault
-}
-
 // Where the message is that is settled now: a log has completed or aborted its reservation.
 fn settled<F: FnOnce(Reservation) -> Result<(), Returned>>(
     reservation: Reservation,
@@ -42,8 +19,8 @@ fn settled<F: FnOnce(Reservation) -> Result<(), Returned>>(
 ) -> Result<CacheInfo, LogFault>
     requires { F.IsAlwaysCallable settle }
 {
-    let entry = entry_of(&reservation);
-    settle(reservation).map_err(refusal)?;
+    let entry = reservation.entry();
+    settle(reservation).map_err(Returned::give_up)?;
     Ok(entry)
 }
 
@@ -70,7 +47,7 @@ fn shift<L: Log>(log: &mut L, page: PageId, entry: CacheInfo) -> Result<CacheInf
 fn wait_and_abort<L: Log>(rt: &HostRuntime, log: &mut L) -> io::Result<()> {
     match log.reserve(9, Kind::Link, b"pending") {
         Ok(reservation) => {
-            let entry = entry_of(&reservation);
+            let entry = reservation.entry();
             let other = put(log, 10, Kind::Link, b"other");
             let early = show_read(rt, log, 9, entry);
             let gone = settled(reservation, |reservation| log.abort(reservation));

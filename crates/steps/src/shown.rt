@@ -47,10 +47,10 @@ fn show_head(rt: &HostRuntime, head: &Head) -> io::Result<()> {
         pointer,
         page,
         kind,
-        len,
+        place,
         status,
-        ..
     } = head;
+    let len = place.len;
     println!(rt; "    {lsn} {pointer:?} page {page} {kind:?} {len} {status:?}")
 }
 

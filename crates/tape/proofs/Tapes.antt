@@ -1,28 +1,19 @@
 -- What a tape keeps, and what fits it. Assumes nothing.
-use Rattle.std.proofs.Common.{◌≡◌, ℕ, ◌+◌, ◌*◌, ◌^◌, ◌<◌, ◌≤◌, true, false, leb, List, [], ◌∷◌, ◌++◌, length, vec_items, vec_len, vec_capacity, ap, ◌∙◌, arith, ltb-true, leb-true}
+use Rattle.std.proofs.Common.{◌≡◌, ℕ, ◌+◌, ◌^◌, ◌<◌, ◌≤◌, true, false, leb, List, [], ◌∷◌, ◌++◌, length, vec_items, vec_capacity, ap, ◌∙◌, arith, ltb-true, leb-true}
 use Rattle.std.proofs.lemmas.List.{length-append, length_push}
 use Rattle.fault.specs.declared.disk_pointer.DiskPtr.{DiskPtr}
 use Rattle.logs.specs.declared.messages.Kind.{Kind}
 use Rattle.logs.specs.declared.reservation.Reservation.{Reservation}
-use Rattle.logs.specs.Meaning.{any_pending, is_blob}
+use Rattle.logs.specs.Meaning.{any_pending}
 use Rattle.book.specs.declared.book.Book.{Book}
-use Rattle.book.specs.Heads.{inlined, messages}
+use Rattle.book.specs.Heads.{messages}
 use Rattle.book.specs.Books.{heads_of, mem_of, told, Kin, Ready, Extended, Appended, new_head}
-use Rattle.book.proofs.Headers.{both_0, both_1, is-ranked}
+use Rattle.book.proofs.Headers.{span, is-ranked}
 use Rattle.book.proofs.Logs.{kin-length, kin-inlined, inlined_push, messages-grown}
-use Rattle.tape.specs.declared.tape.Tape.{Tape}
+use Rattle.tape.specs.Keeping.{Keeps}
 use Rattle.tape.specs.Tapes.{used_by, tape_fits}
-
--- what a tape of so many bytes keeps of its book
-pub record Keeps (room : ℕ) (b : Book) : Type 0 where
-  pub plain : inlined (heads_of b) ≡ true
-  pub short : room ≤ 2 ^ 32
-  pub used : 32 * length (heads_of b) + length (mem_of b) ≤ room
-  pub wide : room ≤ 32 * vec_capacity b.heads
-  pub deep : room ≤ vec_capacity b.mem
-
-pub kept : (t : Tape) → Keeps t.room t.book
-kept t = record { plain = t.plain; short = t.short; used = t.used; wide = t.wide; deep = t.deep }
+use Rattle.std.proofs.lemmas.Bool.{and_parts}
+use Rattle.fault.specs.Pointers.{is_blob}
 
 -- a change of states keeps it
 pub kin_keeps : {b c : Book} (room : ℕ) → Kin b c → Keeps room b → Keeps room c
@@ -45,27 +36,21 @@ pub record Room (room : ℕ) (b : Book) (n : ℕ) : Type 0 where
 pub fitting : (room : ℕ) (b : Book) (n : ℕ) → tape_fits room b n ≡ true → Room room b n
 fitting room b n t =
     let used = used_by (length (heads_of b)) (length (mem_of b)) in
-    let u = both_1 (leb n 1152) _ t in
+    let u = (and_parts (leb n 1152) _ t).1 in
     record {
-      small = leb-true n 1152 (both_0 (leb n 1152) _ t);
-      behind = leb-true (used + 32 + n) room (both_0 (leb (used + 32 + n) room) _ u);
-      next = ltb-true b.next (2 ^ 62) (both_1 (leb (used + 32 + n) room) _ u);
+      small = leb-true n 1152 (and_parts (leb n 1152) _ t).0;
+      behind = leb-true (used + 32 + n) room (and_parts (leb (used + 32 + n) room) _ u).0;
+      next = ltb-true b.next (2 ^ 62) (and_parts (leb (used + 32 + n) room) _ u).1;
     }
 
 module _ (room : ℕ) (b c : Book) (bytes : List ℕ) (f : Room room b (length bytes)) (h : Keeps room b) where
-  pub can_extend : vec_len b.mem + length bytes ≤ vec_capacity b.mem
-  can_extend =
-      let l = b.mem.ok.0 in
-      let deep = h.deep in
-      omega (arith, f.behind)
-
   module _ (e : Extended b c bytes) (quiet : any_pending (told b) ≡ false) (at : ℕ) (w : at ≡ length (mem_of b)) where
     -- more memory changes no message
     still : told c ≡ told b
     still =
         (λ i. messages (e.mem i) (vec_items (e.heads i))) ∙ messages-grown 0 b.next (mem_of b) bytes (heads_of b) (is-ranked 0 b.next (length (mem_of b)) (heads_of b) b.ranks)
 
-    pub ready : Ready c at (length bytes)
+    pub ready : Ready c (span at (length bytes))
     ready =
         let l : length (mem_of c) ≡ length (mem_of b) + length bytes = ap length e.mem ∙ length-append (mem_of b) bytes in
         let n = b.heads.ok.0 in
@@ -78,9 +63,9 @@ module _ (room : ℕ) (b c : Book) (bytes : List ℕ) (f : Room room b (length b
           low = rw e.next f.next;
         }
 
-    pub keeps_on : (d : Book) (p : ℕ) (k : Kind) (o : DiskPtr) (r : Reservation) → is_blob o ≡ false → Appended c d p k o at (length bytes) r → Keeps room d
+    pub keeps_on : (d : Book) (p : ℕ) (k : Kind) (o : DiskPtr) (r : Reservation) → is_blob o ≡ false → Appended c d p k o (span at (length bytes)) r → Keeps room d
     keeps_on d p k o r plain a =
-        let x = new_head c.next p k o at (length bytes) in
+        let x = new_head c.next p k o (span at (length bytes)) in
         let g : heads_of d ≡ heads_of b ++ (x ∷ []) = a.heads ∙ ap (λ v. vec_items v ++ (x ∷ [])) e.heads in
         let l : length (heads_of d) ≡ length (heads_of b) + 1 = ap length g ∙ length_push (heads_of b) x in
         let m : length (mem_of d) ≡ length (mem_of b) + length bytes = ap (λ v. length (vec_items v)) a.mem ∙ ap length e.mem ∙ length-append (mem_of b) bytes in

@@ -1,6 +1,6 @@
 -- What a tape means. Assumes nothing.
-use Rattle.std.specs.Prelude.{ℕ, ◌+◌, ◌*◌, ◌^◌, Bool, false, [], length, nat_le, nat_lt}
-use Rattle.logs.specs.Meaning.{Meaning, both}
+use Rattle.std.specs.Prelude.{ℕ, ◌+◌, ◌*◌, ◌^◌, Bool, false, [], length, nat_le, nat_lt, ◌&&◌}
+use Rattle.logs.specs.Meaning.{Meaning}
 use Rattle.book.specs.declared.book.Book.{Book}
 use Rattle.book.specs.Books.{heads_of, mem_of, book_means}
 use Rattle.tape.specs.declared.tape.Tape.{Tape}
@@ -11,7 +11,7 @@ used_by count bytes = 32 * count + bytes
 
 -- a payload of n bytes fits a tape of so many bytes: it is short enough, there is room behind what is used, and a position is left
 abbrev pub room_for : ℕ → ℕ → ℕ → ℕ → Bool
-room_for room used next n = both (nat_le n 1152) (both (nat_le (used + 32 + n) room) (nat_lt next (2 ^ 62)))
+room_for room used next n = nat_le n 1152 && ((nat_le (used + 32 + n) room) && nat_lt next (2 ^ 62))
 
 abbrev pub tape_fits : ℕ → Book → ℕ → Bool
 tape_fits room b n = room_for room (used_by (length (heads_of b)) (length (mem_of b))) b.next n

@@ -3,9 +3,12 @@ ghost use Rattle.book.specs.Books.{heads_of};
 ghost use Rattle.tape.specs.Tapes.{tape_means, tape_fits, empty_tape};
 
 use crate::tape::Tape;
-use book::{Book, Head};
+use book::{Book, Head, Place};
 use fault::{DiskPtr, LogOffset, PageId};
-use logs::{CacheInfo, Event, Kind, Log, LogFault, Position, Reservation, Returned};
+use logs::{
+    CacheInfo, Event, HEADER_LEN, Kind, Log, LogFault, MAX_PAYLOAD, POSITION_END, Position,
+    Reservation, Returned,
+};
 use std::alloc::{AllocError, Global};
 
 impl Tape {
@@ -14,8 +17,9 @@ impl Tape {
         ensures { IfOk result (λ tape. tape_means tape ≡ empty_tape number room) }
     {
         let room = room as usize;
-        let heads = Vec::with_capacity(heap, room / 32 + 1)?;
+        let heads = Vec::with_capacity(heap, room / HEADER_LEN + 1)?;
         let mem = Vec::with_capacity(heap, room)?;
+        // Kept: here and in the segmented log; a function of three of these five fields would say less of where a log begins.
         let book = Book {
             number,
             stable: 0,
@@ -30,14 +34,8 @@ impl Tape {
     pub fn fits(&self, n: usize) -> bool
         ensures { result ≡ (tape_means self.now).fits n }
     {
-        if n > 1152 {
-            return false;
-        }
-        let used = 32 * self.book.heads.len() + self.book.mem.len();
-        if used + 32 + n > self.room {
-            return false;
-        }
-        self.book.next < 4611686018427387904
+        let used = HEADER_LEN * self.book.heads.len() + self.book.mem.len();
+        n <= MAX_PAYLOAD && used + HEADER_LEN + n <= self.room && self.book.next < POSITION_END
     }
 
     // The headers of its messages, in order of reserving.
@@ -48,6 +46,7 @@ impl Tape {
     }
 }
 
+// Kept: what passes a call on to the book is a line; a trait over both logs would have to lend the book past their ghost fields.
 impl Log for Tape {
     ghost means = { tape_means };
 
@@ -60,17 +59,15 @@ impl Log for Tape {
         if self.book.any_pending() {
             return Err(LogFault::Pending(pid));
         }
-        let n = payload.len();
-        if !self.fits(n) {
+        let len = payload.len();
+        if !self.fits(len) {
             return Err(LogFault::Full(pid));
         }
         let at = self.book.mem.len();
-        let offset = 32 * self.book.heads.len() + at;
+        let lid = HEADER_LEN * self.book.heads.len() + at;
         self.book.extend(payload);
-        let reservation = self
-            .book
-            .append(pid, kind, DiskPtr::Inline(offset as u64), at, n);
-        Ok(reservation)
+        let pointer = DiskPtr::Inline(lid as LogOffset);
+        Ok(self.book.append(pid, kind, pointer, Place { at, len }))
     }
 
     fn complete(&mut self, reservation: Reservation) -> Result<(), Returned> {

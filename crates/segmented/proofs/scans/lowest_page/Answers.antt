@@ -1,22 +1,19 @@
-use Rattle.std.proofs.Common.{[], ◌∷◌, ◌++◌, get_or, take, Some, sym, ◌∙◌}
-use Rattle.fault.specs.declared.disk_pointer.DiskPtr.TheVariants.{Inline}
-use Rattle.logs.specs.declared.messages.Kind.TheVariants.{Counter}
-use Rattle.logs.specs.declared.messages.Status.TheVariants.{Pending}
+use Rattle.std.specs.Iterator.Adapters.{filter_callee}
+use Rattle.std.proofs.Common.{ap, ◌≡◌, min, rules, tests, sym, ◌∙◌, subst, ℕ, Option}
+use Rattle.std.specs.List.{reduce}
+use Rattle.std.proofs.lemmas.Iterator.{YieldsList-from_slice, YieldsList-from_map}
+use Rattle.std.proofs.lemmas.Iterator.Adapters.{option_map_id}
+use Rattle.std.proofs.lemmas.Iterator.Consumers.{YieldsList-from_filter, min_from_yields_List}
 use Rattle.book.specs.declared.head.Head.{Head}
-use Rattle.std.proofs.lemmas.List.{take_more, take_all}
-use Rattle.segmented.proofs.Lowered.{low_skip, low_same, low_new, low-on}
+use Rattle.segmented.specs.Layout.{Lowest, live_in}
+use Rattle.segmented.proofs.Lowered.{lowest, pages}
 use Rattle.segmented.proofs.scans.lowest_page.Goals as goal
 
-pub loop-h-preserved-then-not-live_in : goal.loop-h-preserved-then-not-live_in
-loop-h-preserved-then-not-live_in c = low-on c.args.q _ _ c.loop-h.low (take_more c.args.heads.now c.loop-h.h-index _ c.loop-h-test.true) (low_skip c.args.q (take c.loop-h.h-index c.args.heads.now) _ c.loop-h.low (sym c.live_in.ensures ∙ c.if-not-live_in.true) c.loop-h.invariant)
-
-pub loop-h-preserved-then-at_most : goal.loop-h-preserved-then-at_most
-loop-h-preserved-then-at_most c = low-on c.args.q _ _ c.loop-h.low (take_more c.args.heads.now c.loop-h.h-index _ c.loop-h-test.true) (low_same c.args.q (take c.loop-h.h-index c.args.heads.now) _ c.loop-h.low (sym c.at_most.ensures ∙ c.if-at_most.true) c.loop-h.invariant)
-
-pub loop-h-preserved : goal.loop-h-preserved
-loop-h-preserved c =
-    let x : Head = get_or c.args.heads.now c.loop-h.h-index (record { lsn = 0; pointer = Inline 0; page = 0; kind = Counter; at = 0; len = 0; status = Pending }) in
-    low-on c.args.q (take c.loop-h.h-index c.args.heads.now ++ (x ∷ [])) _ (Some x.page) (take_more c.args.heads.now c.loop-h.h-index _ c.loop-h-test.true) (low_new c.args.q (take c.loop-h.h-index c.args.heads.now) x c.loop-h.low (sym c.live_in.ensures ∙ c.if-not-live_in.false) (sym c.at_most.ensures ∙ c.if-at_most.false) c.loop-h.invariant)
-
 pub returns : goal.returns
-returns c = low-on c.args.q _ _ c.loop-h.low (sym (take_all c.loop-h.h-index c.args.heads.now c.loop-h-test.false)) c.loop-h.invariant
+returns c =
+    let q = c.args.q in
+    let hs = c.args.heads.now in
+    let e : c.min.result ≡ reduce min (pages q hs) =
+    sym (option_map_id _) ∙ min_from_yields_List _ _ c.min.ensures.ran (YieldsList-from_map _ (λ (h : Head). h.page) (YieldsList-from_filter _ (live_in q) (YieldsList-from_slice hs cc) (ap filter_callee c.map.ensures.source ∙ c.filter.ensures.closure) (λ x r p k. search (rules, tests))) c.map.ensures.closure (λ x r p k. search (rules, tests))) in
+    let P : Option ℕ → Type 0 = λ o. Lowest q hs o in
+    subst P (sym e) (lowest q hs)

@@ -8,9 +8,6 @@ invariant_of-self c =
     let w = c.requires.within in
     record {
       first = omega arith;
-      ranks = pushed_ranked c.args.self.now.next (length (mem_of c.args.self.now)) (heads_of c.args.self.now) _ (new_head c.args.self.now.next c.args.page c.args.kind c.args.pointer c.args.at c.args.len) c.push_reserved.ensures.items c.args.self.now.first refl w c.requires.small c.args.self.now.ranks;
+      ranks = pushed_ranked c.args.self.now.next (length (mem_of c.args.self.now)) (heads_of c.args.self.now) _ (new_head c.args.self.now.next c.args.page c.args.kind c.args.pointer c.args.place) c.push_reserved.ensures.items c.args.self.now.first refl w c.requires.small c.args.self.now.ranks;
       last = rw c.push_reserved.ensures.items (calm_push (mem_of c.args.self.now) (heads_of c.args.self.now) _ c.requires.quiet);
     }
-
-pub returns : goal.returns
-returns c = record { number = refl; stable = refl; next = refl; mem = refl; heads = c.push_reserved.ensures.items; cap = c.push_reserved.ensures.capacity; mine = c.new.ensures.0; lsn = c.new.ensures.1; pointer = c.new.ensures.2 }

@@ -1,4 +1,3 @@
-use Rattle.std.proofs.Common.{refl}
 use Rattle.book.specs.Books.{heads_of, mem_of}
 use Rattle.book.proofs.Headers.{grown, grown-ranked}
 use Rattle.book.proofs.book.Book.extend.Goals as goal
@@ -10,6 +9,3 @@ invariant_of-self c =
       ranks = grown-ranked c.args.self.now.next (mem_of c.args.self.now) c.args.payload.now _ (heads_of c.args.self.now) (grown _ (mem_of c.args.self.now) c.args.payload.now _ (c.extend_from_slice.ensures.succeeds c.requires) c.extend_from_slice.ensures.items) c.args.self.now.ranks;
       last = c.args.self.now.last;
     }
-
-pub returns : goal.returns
-returns c = record { number = refl; stable = refl; next = refl; heads = refl; mem = grown _ (mem_of c.args.self.now) c.args.payload.now _ (c.extend_from_slice.ensures.succeeds c.requires) c.extend_from_slice.ensures.items; cap = c.extend_from_slice.ensures.capacity }

@@ -1,33 +1,52 @@
 -- What is read is the payload of the live message, out of the memory.
-use Rattle.std.proofs.Common.{ℕ, List, ◌++◌, length, take, drop, refl, ap, ◌∙◌, arith}
-use Rattle.book.specs.Heads.{message}
+use Rattle.std.proofs.Common.{◌≡◌, ◌++◌, length, drop, refl, ap, ◌∙◌, arith, rules}
+use Rattle.std.proofs.lemmas.List.{length-take}
+use Rattle.book.specs.Heads.{message, payload_of}
 use Rattle.book.specs.Books.{mem_of}
-use Rattle.book.proofs.Pages.{payload-long, payload-small, found-there}
+use Rattle.book.proofs.Pages.{payload-long, payload-small, found-there, found-index}
 use Rattle.book.proofs.book.Book.read.Goals as goal
 
-pub returns-then-h-page : goal.returns-then-h-page
-returns-then-h-page c =
-    let a = c.in-Some.ensures in
-    (refl, (refl, refl, c.if-scratch-lt1152.false, (message (mem_of c.args.self.now) c.index-h.result.now, found-there c.args.self.now c.args.lsn c.args.pointer c.in-Some.i c.index-h.result.now a c.index-h.ensures, c.if-h-page.true)))
+pub payload-payload-requires : goal.payload-payload-requires
+payload-payload-requires c =
+    let b = c.args.self.now in
+    let a = found-index b c.args.lsn c.args.pointer c.live_at.result c.in_ok-i.i (search rules) c.live_at.ensures in
+    rw c.deref.ensures.value (payload-long b c.in_ok-i.i c.index.result.now a.0 c.index.ensures).0
 
-pub put_out-requires : goal.put_out-requires
-put_out-requires c =
-    let a = c.in-Some.ensures in
-    let w = payload-long c.args.self.now c.in-Some.i c.index-h.result.now a.0 c.index-h.ensures in
-    let s = payload-small c.args.self.now c.in-Some.i c.index-h.result.now a.0 c.index-h.ensures in
-    (omega (arith, w.0, ap length c.as_slice.ensures.value), omega arith)
+pub slice_bounds-copy_from_slice-end : goal.slice_bounds-copy_from_slice-end
+slice_bounds-copy_from_slice-end c =
+    let b = c.args.self.now in
+    let a = found-index b c.args.lsn c.args.pointer c.live_at.result c.in_ok-i.i (search rules) c.live_at.ensures in
+    let s = payload-small b c.in_ok-i.i c.index.result.now a.0 c.index.ensures in
+    omega arith
+
+pub slice_bounds-copy_from_slice-end-2 : goal.slice_bounds-copy_from_slice-end-2
+slice_bounds-copy_from_slice-end-2 c =
+    let b = c.args.self.now in
+    let a = found-index b c.args.lsn c.args.pointer c.live_at.result c.in_ok-i.i (search rules) c.live_at.ensures in
+    let s = payload-small b c.in_ok-i.i c.index.result.now a.0 c.index.ensures in
+    simp length-take (omega arith)
+
+pub copy_from_slice-requires : goal.copy_from_slice-requires
+copy_from_slice-requires c =
+    let b = c.args.self.now in
+    let a = found-index b c.args.lsn c.args.pointer c.live_at.result c.in_ok-i.i (search rules) c.live_at.ensures in
+    let w = payload-long b c.in_ok-i.i c.index.result.now a.0 c.index.ensures in
+    let s = payload-small b c.in_ok-i.i c.index.result.now a.0 c.index.ensures in
+    let e : length c.payload-payload.result.now ≡ c.index.result.now.place.len = ap length (c.payload-payload.ensures ∙ ap (λ m. payload_of m c.index.result.now) c.deref.ensures.value) ∙ w.1 in
+    simp length-take (omega arith)
 
 pub returns : goal.returns
 returns c =
-    let a = c.in-Some.ensures in
-    let w = payload-long c.args.self.now c.in-Some.i c.index-h.result.now a.0 c.index-h.ensures in
+    let b = c.args.self.now in
+    let x = c.index.result.now in
+    let a = found-index b c.args.lsn c.args.pointer c.live_at.result c.in_ok-i.i (search rules) c.live_at.ensures in
     record {
-      message = message (mem_of c.args.self.now) c.index-h.result.now;
-      there = found-there c.args.self.now c.args.lsn c.args.pointer c.in-Some.i c.index-h.result.now a c.index-h.ensures;
+      message = message (mem_of b) x;
+      there = found-there b c.args.lsn c.args.pointer c.in_ok-i.i x a c.index.ensures;
       page = c.if-h-page.false;
       kind = refl;
-      size = w.1;
-      small = payload-small c.args.self.now c.in-Some.i c.index-h.result.now a.0 c.index-h.ensures;
-      room = c.if-scratch-lt1152.false;
-      out = c.put_out.ensures ∙ ap (λ (x : List ℕ). take c.index-h.result.now.len (drop c.index-h.result.now.at x) ++ drop c.index-h.result.now.len c.args.scratch.now) c.as_slice.ensures.value;
+      size = (payload-long b c.in_ok-i.i x a.0 c.index.ensures).1;
+      small = payload-small b c.in_ok-i.i x a.0 c.index.ensures;
+      room = search rules;
+      out = ap (λ l. l ++ drop x.place.len c.args.scratch.now) (c.copy_from_slice.ensures.after ∙ c.payload-payload.ensures ∙ ap (λ m. payload_of m x) c.deref.ensures.value);
     }

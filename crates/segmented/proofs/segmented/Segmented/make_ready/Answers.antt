@@ -1,18 +1,20 @@
-use Rattle.std.proofs.Common.{◌≡◌, ◌+◌, ◌^◌, ◌<◌, ◌≤◌, false, refl, rules}
+use Rattle.std.proofs.Common.{◌≡◌, ◌+◌, ◌^◌, ◌<◌, ◌≤◌, false, refl, rules, Some}
 use Rattle.logs.specs.Meaning.{any_pending}
-use Rattle.book.specs.Books.{told}
+use Rattle.book.specs.Books.{told, heads_of}
+use Rattle.segmented.specs.Layout.{free_seg, Picked}
 use Rattle.segmented.proofs.Kept.{open_keeps}
 use Rattle.segmented.proofs.Putting.{prepared_here, prepared_open, ready-here, ready_open}
 use Rattle.segmented.proofs.segmented.Segmented.make_ready.Goals as goal
 
 pub invariant_of-self : goal.invariant_of-self
 invariant_of-self c =
-    let a = c.in-Some.ensures in
-    let k = open_keeps c.args.self.now c.compact.new.self c.compact.ensures c.in-Some.q a.0 a.1 in
-    record { few = k.few; slim = k.slim; sized = k.sized; inside = k.inside; filled = k.filled; roomy = k.roomy; packed = k.packed; lay = k.lay }
+    let s = c.args.self.now in
+    let found : c.free_segment.result ≡ Some c.in_ok-q.q = search rules in
+    let a : Picked (free_seg s.active (heads_of s.book)) s.segs (Some c.in_ok-q.q) = rw found at c.free_segment.ensures in
+    record { kept = open_keeps s c.compact.new.self c.compact.ensures c.in_ok-q.q a.0 a.1 }
 
-pub returns-then-self-need-le4096 : goal.returns-then-self-need-le4096
-returns-then-self-need-le4096 c =
+pub returns-then-self-need-le-SEGMENT_LEN : goal.returns-then-self-need-le-SEGMENT_LEN
+returns-then-self-need-le-SEGMENT_LEN c =
     let s = c.args.self.now in
     let quiet : any_pending (told s.book) ≡ false = search rules in
     let low : s.book.next < 2 ^ 62 = search rules in
@@ -23,7 +25,8 @@ returns-then-self-need-le4096 c =
 pub returns : goal.returns
 returns c =
     let s = c.args.self.now in
-    let a = c.in-Some.ensures in
+    let found : c.free_segment.result ≡ Some c.in_ok-q.q = search rules in
+    let a : Picked (free_seg s.active (heads_of s.book)) s.segs (Some c.in_ok-q.q) = rw found at c.free_segment.ensures in
     let low : s.book.next < 2 ^ 62 = search rules in
     let n : 32 ≤ c.args.need = search rules in
     let l : 0 + c.args.need ≤ 4096 = search rules in

@@ -1,38 +1,32 @@
-use Rattle.std.proofs.Common.{◌+◌, ◌*◌, length, refl, arith}
-use Rattle.fault.specs.declared.disk_pointer.DiskPtr.TheVariants.{Inline}
-use Rattle.segmented.proofs.Kept.{push_keeps}
-use Rattle.segmented.proofs.Putting.{inline_room, inline_apart, new_inline, over-ready, over-put, over-long, over-cap, over-heads, seg_of}
+use Rattle.std.proofs.Common.{◌+◌, ◌≤◌, length, refl, arith}
+use Rattle.book.specs.Books.{heads_of, mem_of}
+use Rattle.segmented.proofs.Laying.{Apart}
+use Rattle.segmented.proofs.Putting.{inline_room, inline_apart, new_inline, over-ready, over-put, seg_of}
 use Rattle.segmented.proofs.segmented.Segmented.put_inline.Goals as goal
 
-pub append-r-requires : goal.append-r-requires
-append-r-requires c =
+pub put-requires : goal.put-requires
+put-requires c =
     let s = c.args.self.now in
-    let bytes = c.args.payload.now in
-    let h = c.requires.0 in
-    let m = c.requires.1 in
-    over-ready s c.overwrite.new.self _ bytes _ c.overwrite.ensures (inline_room s (length bytes) h) (inline_apart s (length bytes) h) h (omega arith)
-
-pub invariant_of-self : goal.invariant_of-self
-invariant_of-self c =
-    let s = c.args.self.now in
-    let bytes = c.args.payload.now in
-    let h = c.requires.0 in
-    let l = inline_room s (length bytes) h in
-    let t = inline_apart s (length bytes) h in
-    let o = Inline (s.active * 4096 + s.fill) in
-    let b = c.overwrite.new.self in
-    let d = c.append-r.new.self in
-    let k = push_keeps s d _ (s.fill + (32 + length bytes))
-    (over-heads s b d c.args.pid c.args.kind bytes o _ c.append-r.result c.overwrite.ensures c.append-r.ensures l t)
-    (over-long s b d c.args.pid c.args.kind bytes o _ c.append-r.result c.overwrite.ensures c.append-r.ensures l t)
-    (over-cap s b d c.args.pid c.args.kind bytes o _ c.append-r.result c.overwrite.ensures c.append-r.ensures l t)
-    (seg_of s.active s.fill (omega (arith, h.there))) (omega arith) h.there
-    (new_inline s.segs s.slots s.active s.fill b.next c.args.pid c.args.kind (length bytes) s.inside h.there) in
-    record { few = k.few; slim = k.slim; sized = k.sized; inside = k.inside; filled = k.filled; roomy = k.roomy; packed = k.packed; lay = k.lay }
+    let n = length c.args.payload.now in
+    let h = c.requires.able in
+    let m = c.requires.short in
+    let lid = c.next_lid-lid.ensures in
+    let room : c.next_lid-lid.result + 32 + n ≤ length (mem_of s.book) = rw lid (inline_room s n h) in
+    let apart : Apart (c.next_lid-lid.result + 32) n (heads_of s.book) = rw lid (inline_apart s n h) in
+    record {
+      ready = over-ready s c.overwrite.new.self _ c.args.payload.now _ c.overwrite.ensures room apart h (omega arith);
+      here = rw lid (seg_of s.active s.fill (omega (arith, h.there)));
+      least = omega arith;
+      there = h.there;
+      placed = rw lid (new_inline s.segs s.slots s.active s.fill c.overwrite.new.self.next c.args.pid c.args.kind n s.kept.inside h.there);
+    }
 
 pub returns : goal.returns
 returns c =
     let s = c.args.self.now in
-    let bytes = c.args.payload.now in
-    let h = c.requires.0 in
-    over-put s c.overwrite.new.self c.append-r.new.self c.args.pid c.args.kind bytes (Inline (s.active * 4096 + s.fill)) _ c.append-r.result c.overwrite.ensures c.append-r.ensures (inline_room s (length bytes) h) (inline_apart s (length bytes) h) _ refl
+    let n = length c.args.payload.now in
+    let h = c.requires.able in
+    let lid = c.next_lid-lid.ensures in
+    let room : c.next_lid-lid.result + 32 + n ≤ length (mem_of s.book) = rw lid (inline_room s n h) in
+    let apart : Apart (c.next_lid-lid.result + 32) n (heads_of s.book) = rw lid (inline_apart s n h) in
+    over-put s c.overwrite.new.self c.put.new.self.book c.args.pid c.args.kind c.args.payload.now _ _ c.put.result c.overwrite.ensures c.put.ensures room apart c.put.new.self refl

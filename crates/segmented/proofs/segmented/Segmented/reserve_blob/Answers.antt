@@ -1,22 +1,26 @@
-use Rattle.std.proofs.Common.{◌≤◌, true, length, arith, rules}
+use Rattle.std.proofs.Common.{◌≡◌, ◌≤◌, true, length, arith, rules, Some}
+use Rattle.book.specs.Books.{heads_of}
+use Rattle.segmented.specs.Layout.{free_slot, Picked}
 use Rattle.segmented.specs.Segments.{seg_fits}
 use Rattle.segmented.proofs.Putting.{reserved, swept, fits-blob, slot_vacant}
 use Rattle.segmented.proofs.segmented.Segmented.reserve_blob.Goals as goal
 
-pub put_blob-r-requires : goal.put_blob-r-requires
-put_blob-r-requires c =
+pub put_blob-requires : goal.put_blob-requires
+put_blob-requires c =
     let s = c.args.self.now in
-    let a = c.if-not-make_ready.ensures.0 in
-    let b = c.in-Some.ensures in
+    let a = c.in_ok-make_ready.ensures.0 in
+    let found : c.free_slot.result ≡ Some c.in_ok-i.i = search rules in
+    let b : Picked (free_slot (heads_of s.book)) s.slots (Some c.in_ok-i.i) = rw found at c.free_slot.ensures in
     let p = swept s c.make_ready.new.self c.sweep.new.self 32 (omega arith) a c.sweep.ensures in
-    (p.able, (search rules, (rw p.slots b.0, slot_vacant s c.make_ready.new.self c.sweep.new.self 32 c.in-Some.i a c.sweep.ensures b.1)))
+    record { able = p.able; short = search rules; slot = rw p.slots b.0; vacant = slot_vacant s c.make_ready.new.self c.sweep.new.self 32 c.in_ok-i.i a c.sweep.ensures b.1 }
 
 pub returns : goal.returns
 returns c =
     let s = c.args.self.now in
     let n = length c.args.payload.now in
-    let a = c.if-not-make_ready.ensures in
-    let b = c.in-Some.ensures in
+    let a = c.in_ok-make_ready.ensures in
+    let found : c.free_slot.result ≡ Some c.in_ok-i.i = search rules in
+    let b : Picked (free_slot (heads_of s.book)) s.slots (Some c.in_ok-i.i) = rw found at c.free_slot.ensures in
     let h : length c.args.payload.now ≤ 1152 = search rules in
     let p = swept s c.make_ready.new.self c.sweep.new.self 32 (omega arith) a.0 c.sweep.ensures in
-    reserved s c.sweep.new.self c.put_blob-r.new.self c.args.pid c.args.kind c.args.payload.now 32 (seg_fits s.segs s.slots s.active s.fill s.book n) c.put_blob-r.result c.requires.0 (fits-blob s.segs s.slots s.active s.fill s.book n true c.requires.1 h b.2 a.1) h p c.put_blob-r.ensures
+    reserved s c.sweep.new.self c.put_blob.new.self c.args.pid c.args.kind c.args.payload.now 32 (seg_fits s.segs s.slots s.active s.fill s.book n) c.put_blob.result c.requires.quiet (fits-blob s.segs s.slots s.active s.fill s.book n true c.requires.long h b.2 a.1) h p c.put_blob.ensures

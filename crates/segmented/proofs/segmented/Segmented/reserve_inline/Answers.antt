@@ -7,6 +7,6 @@ pub returns : goal.returns
 returns c =
     let s = c.args.self.now in
     let n = length c.args.payload.now in
-    let a = c.if-not-make_ready.ensures in
-    let h = c.requires.1 in
-    reserved s c.make_ready.new.self c.put_inline-r.new.self c.args.pid c.args.kind c.args.payload.now (32 + n) (seg_fits s.segs s.slots s.active s.fill s.book n) c.put_inline-r.result c.requires.0 (fits_inline s.segs s.slots s.active s.fill s.book n true h a.1) (omega arith) a.0 c.put_inline-r.ensures
+    let a = c.in_ok-make_ready.ensures in
+    let h = c.requires.short in
+    reserved s c.make_ready.new.self c.put_inline.new.self c.args.pid c.args.kind c.args.payload.now (32 + n) (seg_fits s.segs s.slots s.active s.fill s.book n) c.put_inline.result c.requires.quiet (fits_inline s.segs s.slots s.active s.fill s.book n true h a.1) (omega arith) a.0 c.put_inline.ensures

@@ -7,8 +7,7 @@ use Rattle.segmented.proofs.segmenting.SegmentedLog.complete.Goals as goal
 pub invariant_of-self : goal.invariant_of-self
 invariant_of-self c =
     let s = c.args.self.now in
-    let k = kin_keeps s c.settle.new.self (settle-kin s.book c.settle.new.self c.args.reservation Complete c.settle.result c.settle.ensures) in
-    record { few = k.few; slim = k.slim; sized = k.sized; inside = k.inside; filled = k.filled; roomy = k.roomy; packed = k.packed; lay = k.lay }
+    record { kept = kin_keeps s c.settle.new.self (settle-kin s.book c.settle.new.self c.args.reservation Complete c.settle.result c.settle.ensures) }
 
 pub returns : goal.returns
 returns c =

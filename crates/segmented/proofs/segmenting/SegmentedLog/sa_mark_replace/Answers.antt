@@ -5,8 +5,7 @@ use Rattle.segmented.proofs.segmenting.SegmentedLog.sa_mark_replace.Goals as goa
 
 pub invariant_of-self : goal.invariant_of-self
 invariant_of-self c =
-    let k = kin_keeps c.args.self.now c.mark.new.self c.mark.ensures.kin in
-    record { few = k.few; slim = k.slim; sized = k.sized; inside = k.inside; filled = k.filled; roomy = k.roomy; packed = k.packed; lay = k.lay }
+    record { kept = kin_keeps c.args.self.now c.mark.new.self c.mark.ensures.kin }
 
 pub returns : goal.returns
 returns c =

@@ -2,14 +2,13 @@ use Rattle.std.proofs.Common.{false}
 use Rattle.logs.specs.declared.messages.Event.TheVariants.{Complete}
 use Rattle.book.proofs.Logs.{settle-kin, on-settle}
 use Rattle.tape.specs.Tapes.{tape_fits}
-use Rattle.tape.proofs.Tapes.{kept, kin_keeps}
+use Rattle.tape.proofs.Tapes.{kin_keeps}
 use Rattle.tape.proofs.taping.TapeLog.complete.Goals as goal
 
 pub invariant_of-self : goal.invariant_of-self
 invariant_of-self c =
     let t = c.args.self.now in
-    let k = kin_keeps t.room (settle-kin t.book c.settle.new.self c.args.reservation Complete c.settle.result c.settle.ensures) (kept t) in
-    record { plain = k.plain; short = k.short; used = k.used; wide = k.wide; deep = k.deep }
+    record { kept = kin_keeps t.room (settle-kin t.book c.settle.new.self c.args.reservation Complete c.settle.result c.settle.ensures) t.kept }
 
 pub returns : goal.returns
 returns c =

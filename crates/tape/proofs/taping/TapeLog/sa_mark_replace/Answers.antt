@@ -1,14 +1,13 @@
 use Rattle.std.proofs.Common.{false}
 use Rattle.book.proofs.Logs.{on-mark}
 use Rattle.tape.specs.Tapes.{tape_fits}
-use Rattle.tape.proofs.Tapes.{kept, kin_keeps}
+use Rattle.tape.proofs.Tapes.{kin_keeps}
 use Rattle.tape.proofs.taping.TapeLog.sa_mark_replace.Goals as goal
 
 pub invariant_of-self : goal.invariant_of-self
 invariant_of-self c =
     let t = c.args.self.now in
-    let k = kin_keeps t.room c.mark.ensures.kin (kept t) in
-    record { plain = k.plain; short = k.short; used = k.used; wide = k.wide; deep = k.deep }
+    record { kept = kin_keeps t.room c.mark.ensures.kin t.kept }
 
 pub returns : goal.returns
 returns c =
