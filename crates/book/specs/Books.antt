@@ -1,5 +1,6 @@
 -- What the calls of a book promise. Assumes nothing.
-use Rattle.std.specs.Prelude.{◌≡◌, ℕ, ◌+◌, ◌^◌, ◌<◌, ◌≤◌, max, Bool, true, false, List, [], ◌∷◌, ◌++◌, length, get_or, Some, None, Ok, Err, vec_items, vec_len, vec_capacity, Option, Result, slice_index_or, slice_set}
+use Rattle.std.specs.Prelude.{◌≡◌, ℕ, ◌+◌, ◌^◌, ◌<◌, ◌≤◌, max, Bool, true, false, List, [], ◌∷◌, ◌++◌, length, get_or, Some, None, Ok, Err, vec_items, vec_len, vec_capacity, Vec, Option, Result, slice_index_or, slice_set}
+use Rattle.std.specs.declared.alloc.Global.{Global}
 use Rattle.fault.specs.declared.disk_pointer.DiskPtr.{DiskPtr}
 use Rattle.logs.specs.declared.messages.CacheInfo.{CacheInfo}
 use Rattle.logs.specs.declared.reservation.Reservation.{Reservation}
@@ -108,6 +109,15 @@ pub record Extended (b c : Book) (bytes : List ℕ) : Type 0 where
   pub heads : c.heads ≡ b.heads
   pub mem : mem_of c ≡ mem_of b ++ bytes
   pub cap : vec_capacity b.mem ≤ vec_capacity c.mem
+
+-- a book of no messages, with this number, in this room for headers and over this memory
+pub record Begun (n : ℕ) (room : Vec Head Global) (m : Vec ℕ Global) (b : Book) : Type 0 where
+  pub number : b.number ≡ n
+  pub stable : b.stable ≡ 0
+  pub next : b.next ≡ 1
+  pub heads : heads_of b ≡ []
+  pub cap : vec_capacity b.heads ≡ vec_capacity room
+  pub mem : b.mem ≡ m
 
 pub record Compacted (b c : Book) : Type 0 where
   pub number : c.number ≡ b.number

@@ -2,7 +2,7 @@ ghost use Rattle.std.specs.Prelude.{◌≡◌, ◌+◌, ◌<◌, ◌≤◌, [], 
 ghost use Rattle.logs.specs.Meaning.{any_pending};
 ghost use Rattle.logs.specs.Clauses.{OnRead};
 ghost use Rattle.book.specs.Heads.{At, AtStatus, payload_of};
-ghost use Rattle.book.specs.Books.{told, heads_of, mem_of, LiveIndex, PendingIndex, Met, BookSettle, Marks, Raised, Ready, Appended, Extended, Compacted, Overwritten};
+ghost use Rattle.book.specs.Books.{Begun, told, heads_of, mem_of, LiveIndex, PendingIndex, Met, BookSettle, Marks, Raised, Ready, Appended, Extended, Compacted, Overwritten};
 
 use crate::book::Book;
 use crate::head::{Head, Place};
@@ -12,6 +12,21 @@ use logs::{
 };
 
 impl Book {
+    // A book of no messages, in room that is lent for their headers, over this memory.
+    pub fn new(number: u64, heads: Vec<Head>, mem: Vec<u8>) -> Book
+        ensures { Begun number heads mem result }
+    {
+        let mut heads = heads;
+        heads.clear();
+        Book {
+            number,
+            stable: 0,
+            next: 1,
+            heads,
+            mem,
+        }
+    }
+
     // The index of the message at a position.
     pub fn find(&self, lsn: Position) -> Option<usize>
         ensures { At (heads_of self.now) lsn result }

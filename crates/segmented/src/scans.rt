@@ -64,7 +64,7 @@ fn live_in(h: &Head, q: u64) -> bool
 }
 
 // The closed segment with the fewest live messages, 1 to 3, the lowest among equals.
-// Kept: the customer asked for these labelled walks, one in the other.
+// Kept: a rule of the project: walks over segments and messages, one in the other, left by their label.
 pub(crate) fn sparse_segment(heads: &[Head], segs: usize, active: usize) -> Option<usize>
     ensures { (m : ℕ) × Sparse heads.now active segs m result }
 {

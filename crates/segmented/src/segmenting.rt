@@ -196,14 +196,7 @@ impl Segmented {
         let heads = Vec::with_capacity(heap, segs * SEGMENT_HEADERS)?;
         let mut mem = Vec::new(heap);
         mem.resize(segs * SEGMENT_LEN + slots * MAX_PAYLOAD, 0)?;
-        // Kept: here and on the tape; a function of three of these five fields would say less of where a log begins.
-        let book = Book {
-            number,
-            stable: 0,
-            next: 1,
-            heads,
-            mem,
-        };
+        let book = Book::new(number, heads, mem);
         Ok(Segmented {
             book,
             segs,

@@ -19,14 +19,7 @@ impl Tape {
         let room = room as usize;
         let heads = Vec::with_capacity(heap, room / HEADER_LEN + 1)?;
         let mem = Vec::with_capacity(heap, room)?;
-        // Kept: here and in the segmented log; a function of three of these five fields would say less of where a log begins.
-        let book = Book {
-            number,
-            stable: 0,
-            next: 1,
-            heads,
-            mem,
-        };
+        let book = Book::new(number, heads, mem);
         Ok(Tape { book, room })
     }
 
