@@ -38,6 +38,7 @@ fn page(word: &str) -> Result<Option<NonZeroU64>, LineFault>
 }
 
 // Whether a number that is 0 or 1 is 1.
+// Kept: bool's own FromStr reads true and false, and a match of two words is plainest.
 fn flag(word: &str) -> Result<bool, LineFault>
     ensures { IfOk result (λ b. word.now ≡ flag_word b) }
 {

@@ -70,6 +70,7 @@ fn decoded(heap: Global, text: &[u8]) -> Result<Vec<u8>, LineFault>
 {
     let mut bytes = Vec::new(heap);
     let mut rest = text;
+    // Kept: a step takes one byte or three and may be refused, so it is no item of a for.
     while !rest.is_empty() {
         let (byte, more) = first_byte(rest).ok_or(LineFault::Unknown)?;
         bytes.push(byte)?;
