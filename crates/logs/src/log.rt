@@ -10,6 +10,7 @@ use crate::reservation::{Reservation, Returned};
 use fault::{DiskPtr, LogOffset, PageId};
 
 // A log, by what it means.
+// Kept: a position and a pointer come one beside the other here, as in sled's calls and in its entries.
 pub trait Log {
     ghost means: { Self → Meaning };
 

@@ -53,6 +53,7 @@ impl Data {
         }
     }
 
+    // Kept: that the rows rise is a premise of the calls of a node alone, since `NodeParts` may hold rows that do not.
     pub(crate) fn set(&mut self, key: Key, value: Value) -> Result<(), NodeFault>
         requires { ordered_rows (data_of self.old) ≡ true }
         ensures does { Does data_of self.old self.new (set_rows (bytes_of key) (bytes_of value) (data_of self.old)) result }

@@ -47,6 +47,7 @@ impl Segmented {
     }
 
     // Makes room for so many bytes and a message of the page, or says that there is none.
+    // Kept: that nothing is pending is a premise of three calls; a token for it would borrow the log while it lives.
     fn make_ready(&mut self, pid: PageId, need: usize) -> Result<(), LogFault>
         requires quiet { any_pending (told self.old.book) ≡ false }
         requires least { 32 ≤ need }
