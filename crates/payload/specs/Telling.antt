@@ -1,29 +1,25 @@
 -- What an answer tells. Assumes nothing.
-use Rattle.std.specs.Prelude.{ℕ, List, [], take}
+use Rattle.std.specs.Prelude.{ℕ, List, []}
 use Rattle.payload.specs.declared.answer.Answer.{Answer}
 use Rattle.payload.specs.declared.answer.Answer.TheVariants.{Linked, NotLinked, Node, Split, Counter, Root, Roots, Read}
 use Rattle.payload.specs.declared.answer.Read.{Read as ReadT}
 use Rattle.payload.specs.declared.answer.Read.TheVariants as read
 use Rattle.payload.specs.declared.command.Kind.{Kind}
 use Rattle.payload.specs.declared.command.Kind.TheVariants as kind
-use Rattle.payload.specs.declared.payload.Payload.{Payload}
 use Rattle.node.specs.Meanings.{link_of}
 use Rattle.node.specs.Outcomes.{node_of, meta_of}
 use Rattle.serialization.specs.Formats.{link_bytes, node_bytes, meta_bytes}
 use Rattle.serialization.specs.Numbers.{number}
 
-abbrev pub payload_of : Payload → List ℕ
-payload_of p = take p.len p.bytes
-
 -- the bytes that it tells, if any
 abbrev pub bytes_told : Answer → List ℕ
-bytes_told (Linked p node) = payload_of p
-bytes_told (NotLinked p fault) = payload_of p
-bytes_told (Node p) = payload_of p
+bytes_told (Linked p node) = p
+bytes_told (NotLinked p fault) = p
+bytes_told (Node p) = p
 bytes_told (Split new node) = []
-bytes_told (Counter p) = payload_of p
+bytes_told (Counter p) = p
 bytes_told (Root page) = []
-bytes_told (Roots former p) = payload_of p
+bytes_told (Roots former p) = p
 bytes_told (Read value) = []
 
 -- the bytes that a value has that was read

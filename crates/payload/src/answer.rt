@@ -16,7 +16,7 @@ pub enum Read {
     Node(Node),
 }
 
-#[derive(Clone, Copy)]
+#[derive(Drop)]
 pub enum Answer {
     // The link's bytes, and the node that it left.
     Linked(Payload, Node),

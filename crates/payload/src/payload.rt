@@ -1,23 +1,31 @@
-ghost use Rattle.std.specs.Prelude.{◌≡◌, ◌≤◌, length, take};
+ghost use Rattle.std.specs.Prelude.{◌≡◌, ℕ, ◌≤◌, List, take};
 
 use crate::strings::Hex;
 use serialization::{PAYLOAD, Serialize};
 use std::fmt;
 use std::fmt::Display;
+use std::marker::Model;
 
 // The bytes of a value, which lie in place.
 // Kept: making one asks for no memory, so that it cannot fail as a Vec would.
-#[derive(Clone, Copy)]
+#[derive(Drop)]
 pub struct Payload {
     bytes: [u8; PAYLOAD],
     len: usize,
-    ghost room: { length bytes ≡ 1152 },
-    ghost few: { len ≤ 1152 },
+}
+
+// Clauses see the bytes.
+impl Model for Payload {
+    ghost Value = { List ℕ };
+
+    ghost view = { λ p. take p.len p.bytes };
+
+    ghost invariant = { λ p. p.len ≤ 1152 };
 }
 
 impl Payload {
     pub fn new<S: Serialize>(value: &S) -> Payload
-        ensures { take result.len result.bytes ≡ S.bytes (S.value value.now) }
+        ensures { result ≡ S.bytes (S.value value.now) }
     {
         let mut bytes = [0; PAYLOAD];
         let Ok(len) = value.serialize_into(&mut bytes) else {
@@ -27,7 +35,7 @@ impl Payload {
     }
 
     pub fn as_slice(&self) -> &[u8]
-        ensures { result.now ≡ take self.now.len self.now.bytes }
+        ensures { result.now ≡ self.now }
     {
         &self.bytes[..self.len]
     }
