@@ -10,7 +10,7 @@ use bounded::Table;
 #[derive(Clone, Copy, PartialEq, Eq, Debug)]
 pub struct TableFull;
 
-// Kept: that the rows rise is a premise inside these contracts, since a node's parts may hold rows that do not.
+// Kept: that the rows rise is a premise inside these contracts, since any rows may stand in the table that a caller brings.
 
 // Puts the row in the place of the one that has its key, and answers that one; or else where its key belongs, if there is room.
 pub fn set_row<R: Keyed + Copy, const N: usize>(

@@ -35,7 +35,7 @@ pub trait Log {
         ensures { means self.new ≡ means self.old };
 
     // The kind and the length of a live message of the page, whose payload is put to the front of the scratch.
-    // Kept: the length comes beside the buffer, since the caller lends it and no call may allocate.
+    // Kept: the caller lends the scratch and keeps it: a slice of it as the answer would hold it borrowed, and a Vec would allocate.
     fn read(
         &self,
         pid: PageId,

@@ -49,7 +49,7 @@ impl Refusal for LogFault {
     }
 }
 
-// Kept: the derive's `#[from]` does not say which variant it makes, and callers rest on that.
+// Kept: the derive's `#[from]` does not say which variant it makes, and this promises it.
 impl From<BytesFault> for LogFault {
     ghost from_gives = { λ fault r. r ≡ Bytes fault };
 

@@ -5,14 +5,14 @@ use crate::log_fault::LogFault;
 use crate::messages::{CacheInfo, Position};
 use fault::DiskPtr;
 
-// A place in a log that has to be handed to complete or abort: it can be neither dropped nor taken apart.
+// A place in a log that has to be handed to complete or abort: a caller can neither drop it nor take it apart.
 pub struct Reservation {
     log: u64,
     lsn: Position,
     pointer: DiskPtr,
 }
 
-// A reservation that a log did not take, and why.
+// A reservation that a log did not take, and why. It may be handed to another log, or given up.
 pub struct Returned {
     pub reservation: Reservation,
     pub fault: LogFault,
@@ -71,7 +71,7 @@ impl Reservation {
         Ok(())
     }
 
-    // Takes it apart.
+    // Only this crate takes it apart, and leaves the log as it is.
     fn end(self) {
         let Reservation {
             log: _,
@@ -82,7 +82,7 @@ impl Reservation {
 }
 
 impl Returned {
-    // Ends a reservation that no log takes, and says why.
+    // Ends the reservation, and says why it was not taken. No log hears of it: a message that was pending stays so.
     pub fn give_up(self) -> LogFault
         ensures { result ≡ self.fault }
     {

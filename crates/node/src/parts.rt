@@ -21,6 +21,7 @@ pub struct NodeParts {
     // The first key that may be here.
     pub lo: Key,
     // The first key that may not, or empty where there is none.
+    // Kept: sled's own form, and the payload's: an empty key bounds nothing, so an Option would have two ways to say none.
     pub hi: Key,
     pub data: Data,
 }

@@ -39,6 +39,7 @@ pub struct Shape {
 }
 
 // What bytes are to be read as.
+// Kept: a log's messages are of the same five kinds, but this program has no log, and reads the words of its own.
 #[derive(Clone, Copy)]
 pub enum Kind {
     Counter,

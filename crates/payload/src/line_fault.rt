@@ -15,7 +15,7 @@ pub enum LineFault {
     Memory,
 }
 
-// Kept: the derive's `#[from]` does not say which variant it makes, and callers rest on that.
+// Kept: the derive's `#[from]` does not say which variant it makes, and this promises it.
 impl From<AllocError> for LineFault {
     ghost from_gives = { λ _ r. r ≡ Memory };
 

@@ -28,9 +28,7 @@ impl Payload {
         ensures { result ≡ S.bytes (S.value value.now) }
     {
         let mut bytes = [0; PAYLOAD];
-        let Ok(len) = value.serialize_into(&mut bytes) else {
-            unreachable!()
-        };
+        let len = value.serialize_into(&mut bytes).unwrap();
         Payload { bytes, len }
     }
 

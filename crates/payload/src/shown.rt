@@ -54,6 +54,7 @@ impl fmt::Display for MetaShown<'_> {
 }
 
 // What a key leads to, as it is written.
+// Kept: `Display` is not ours to write for a value, which is another crate's.
 trait Shown {
     fn show<W: fmt::Write>(&self, f: &mut fmt::Formatter<W>) -> fmt::Result;
 }

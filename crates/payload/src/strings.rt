@@ -38,6 +38,7 @@ fn hex_word(word: &str) -> Option<u8>
 pub fn payload_of(heap: Global, words: &[&str]) -> Result<Vec<u8>, LineFault>
     ensures { Finds (hex_words (texts words.now)) result }
 {
+    // Kept: `try_collect` does not say that a word which is none is what it fails for.
     let mut bytes = Vec::new(heap);
     for word in words {
         bytes.push(hex_word(word).ok_or(LineFault::Unknown)?)?;

@@ -47,7 +47,8 @@ impl Segmented {
     }
 
     // Makes room for so many bytes and a message of the page, or says that there is none.
-    // Kept: that nothing is pending is a premise of three calls; a token for it would borrow the log while it lives.
+    // Kept: that nothing is pending, that there is room and that a slot is one of the log's are premises of three calls each;
+    // a token for one would borrow the log while it lives.
     fn make_ready(&mut self, pid: PageId, need: usize) -> Result<(), LogFault>
         requires quiet { any_pending (told self.old.book) ≡ false }
         requires least { 32 ≤ need }
@@ -90,6 +91,8 @@ impl Segmented {
         let at = self.segs * SEGMENT_LEN + i * MAX_PAYLOAD;
         Place { at, len }
     }
+
+    // Kept: a page, a kind and a payload come one beside the other from here on, as in the call of the log that brings them.
 
     // A pending message, whose header lies next in the active segment and takes so many bytes of it.
     fn put(
@@ -224,7 +227,8 @@ impl Segmented {
     }
 }
 
-// Kept: what passes a call on to the book is a line; a trait over both logs would have to lend the book past their ghost fields.
+// Kept: what passes a call on to the book is a line each; a trait over both logs would have to lend the book past their ghost
+// fields, and of one generic log two crates could not each have a `new`.
 impl Log for Segmented {
     ghost means = { seg_means };
 

@@ -4,7 +4,7 @@ use native.Mathlib.Nat.{sub-zero}
 use Rattle.std.proofs.lemmas.Bool.{lt-ltb, le-ltb}
 use Rattle.fault.specs.declared.bytes_fault.BytesFault.{BytesFault}
 use Rattle.fault.specs.declared.bytes_fault.BytesFault.TheVariants.{TooLong, Unlawful, EndsEarly, BadNumber, OutOfRange, LeftOver, ScratchTooSmall}
-use Rattle.serialization.specs.Parsing.{Parsed, read, unlawful, fault, and_then, times}
+use Rattle.serialization.specs.Parsing.{Parsed, read, unlawful, fault, and_then, times, parse_byte}
 use Rattle.serialization.specs.Numbers.{join_groups, parse_groups, parse_number}
 use Rattle.serialization.specs.Formats.{parse_string, parse_list}
 use Rattle.serialization.specs.Calls.{Stops, Refuses, Takes}
@@ -36,9 +36,14 @@ Stops_refuses p before ScratchTooSmall h = absurd h
 
 -- ---- the groups of a number
 
-pub parse-end : (m : ℕ) → parse_groups m [] ≡ fault EndsEarly
+parse-end : (m : ℕ) → parse_groups m [] ≡ fault EndsEarly
 parse-end zero = refl
 parse-end (suc m) = refl
+
+-- a number begins with a byte
+pub parse-first : (m : ℕ) (bs : List ℕ) → parse_groups m bs ≡ and_then (parse_byte bs) (λ b rest. parse_groups m (b ∷ rest))
+parse-first m [] = parse-end m
+parse-first m (b ∷ rest) = refl
 
 pub parse-last : (b : ℕ) (rest : List ℕ) → b < 2 → parse_groups 0 (b ∷ rest) ≡ read b rest
 parse-last b rest h = ap (λ t. cond t (read b rest) (fault BadNumber)) (lt-ltb b 2 h)
@@ -75,9 +80,9 @@ module _ (most n : ℕ) (bs rest : List ℕ) (e : parse_number bs ≡ read n res
   string_read h l = within h ∙ ap (λ t. cond t (fault EndsEarly) (read (take n rest) (drop n rest))) (le-ltb (length rest) n l)
 
 -- the body of a string, taken as one
-pub string_taken : (N n : ℕ) (bs rest body after : List ℕ) (r : Result (IVec N) BytesFault) → parse_number bs ≡ read n rest → n ≤ N → N < 128 → n ≤ length rest → body ≡ take n rest → after ≡ drop n rest → MatchResult r (λ v. (bytes_of v ≡ body) × (length body ≤ min N 255)) (λ e. (e ≡ TooLong) × (min N 255 < length body)) → Takes bytes_of (parse_string N bs) after r
-string_taken N n bs rest body after (Ok v) e h small l front back made = string_read N n bs rest e h l ∙ (λ i. read ((sym front ∙ sym made.0) i) (sym back i))
-string_taken N n bs rest body after (Err x) e h small l front back made =
+pub string_taken : (N n : ℕ) (bs rest body after : List ℕ) (r : Result (IVec N) BytesFault) → parse_number bs ≡ read n rest → n ≤ min N 255 → n ≤ length rest → body ≡ take n rest → after ≡ drop n rest → MatchResult r (λ v. (bytes_of v ≡ body) × (length body ≤ min N 255)) (λ e. (e ≡ TooLong) × (min N 255 < length body)) → Takes bytes_of (parse_string (min N 255) bs) after r
+string_taken N n bs rest body after (Ok v) e h l front back made = string_read (min N 255) n bs rest e h l ∙ (λ i. read ((sym front ∙ sym made.0) i) (sym back i))
+string_taken N n bs rest body after (Err x) e h l front back made =
     let k = ap length front in
     let t = length-take-le n rest l in
     absurd (omega (arith, made.1))

@@ -4,6 +4,7 @@ ghost use Rattle.serialization.specs.Numbers.{groups, limit, parse_groups};
 ghost use Rattle.serialization.specs.Calls.{Takes};
 ghost use Rattle.serialization.specs.Writing.{Room, Puts};
 
+use crate::piece::Piece;
 use crate::writer::Writer;
 use fault::BytesFault;
 
@@ -13,11 +14,8 @@ pub(crate) fn take_groups(buf: &mut &[u8], more: u32) -> Result<u64, BytesFault>
     ensures takes { Takes (λ x. x) (parse_groups more buf.old.now) buf.new.now result }
     ensures below { IfOk result (λ n. n < limit more) }
 {
-    let [byte, rest @ ..] = *buf else {
-        return Err(BytesFault::EndsEarly);
-    };
-    let low = *byte as u64;
-    *buf = rest;
+    let byte = u8::take(buf)?;
+    let low = byte as u64;
     if more == 0 {
         return if low < 2 {
             Ok(low)

@@ -33,9 +33,7 @@ impl<V: Piece + Copy + Default, const N: usize> Piece for Table<Row<V>, N> {
         let mut rows = Table::new(Row::default());
         for _ in 0..count {
             let row = Row::take(buf)?;
-            let Ok(()) = rows.push(row) else {
-                unreachable!()
-            };
+            rows.push(row).unwrap();
         }
         Ok(rows)
     }

@@ -25,7 +25,7 @@ fn page_number(page: Option<NonZeroU64>) -> u64
     page.map_or(0, NonZeroU64::get)
 }
 
-// Kept: the kinds are the format's own numbers and stand here only.
+// Kept: the two kinds are the format's own numbers and stand here only; an enum of them would say each twice.
 impl Piece for Data {
     ghost Meaning = { Rows };
 

@@ -1,5 +1,5 @@
 // The parts of payloads: bytes, flags, numbers, strings and rows.
-ghost use Rattle.std.specs.Prelude.{◌≡◌, ℕ, ◌+◌, ◌<◌, ◌≤◌, Bool, List, [], ◌∷◌, ◌++◌, length, OnOk};
+ghost use Rattle.std.specs.Prelude.{◌≡◌, ℕ, ◌+◌, ◌≤◌, Bool, cond, nat_lt, min, List, [], ◌∷◌, ◌++◌, length, OnOk};
 ghost use Rattle.bounded.specs.Bytes.{bytes_of};
 ghost use Rattle.node.specs.Nodes.{Str, Row};
 ghost use Rattle.node.specs.Meanings.{row_of};
@@ -15,7 +15,7 @@ use crate::serialize::PAYLOAD;
 use crate::writer::Writer;
 use bounded::IVec;
 use fault::BytesFault;
-use node::{Key, Row, Value};
+use node::{Key, Row};
 
 // A part of a payload.
 pub(crate) trait Piece: Sized {
@@ -91,6 +91,7 @@ impl Piece for u8 {
     }
 }
 
+// Kept: a flag is 0 or 1 in the format, and that stands here only.
 impl Piece for bool {
     ghost Meaning = { Bool };
 
@@ -139,72 +140,35 @@ impl Piece for u64 {
     }
 }
 
-// Takes a string of at most N bytes.
-fn take_string<const N: usize>(buf: &mut &[u8]) -> Result<IVec<N>, BytesFault>
-    requires { N < 128 }
-    ensures { Takes bytes_of (parse_string N buf.old.now) buf.new.now result }
-{
-    let len = u64::take(buf)?;
-    if len > N as u64 {
-        return Err(BytesFault::OutOfRange);
-    }
-    let (body, rest) = buf
-        .split_at_checked(len as usize)
-        .ok_or(BytesFault::EndsEarly)?;
-    *buf = rest;
-    IVec::from_slice(body)
-}
-
-fn put_string<const N: usize>(string: &IVec<N>, to: &mut Writer)
-    requires { (N < 128) × Room (1 + N) to.old }
-    ensures puts { Puts (str_bytes (bytes_of string.now)) to.old to.new }
-    ensures bound { length (str_bytes (bytes_of string.now)) ≤ 1 + N }
-{
-    put_groups(string.len() as u64, 9, to);
-    to.extend(string.as_slice());
-}
-
-impl Piece for Key {
+// A string as bytes: its length, and then its bytes, of which no string has more than 255.
+impl<const N: usize> Piece for IVec<N> {
     ghost Meaning = { Str };
 
     ghost meaning = { bytes_of };
 
     ghost bytes = { str_bytes };
 
-    ghost parse = { parse_string 24 };
+    ghost parse = { parse_string (min N 255) };
 
-    ghost Fits = { FitsString 24 };
+    ghost Fits = { FitsString (min N 255) };
 
-    ghost most = { 25 };
+    ghost most = { cond (nat_lt N 128) 1 10 + min N 255 };
 
-    fn take(buf: &mut &[u8]) -> Result<Key, BytesFault> {
-        take_string(buf)
+    fn take(buf: &mut &[u8]) -> Result<IVec<N>, BytesFault> {
+        let len = u64::take(buf)?;
+        if len > N.min(255) as u64 {
+            return Err(BytesFault::OutOfRange);
+        }
+        let (body, rest) = buf
+            .split_at_checked(len as usize)
+            .ok_or(BytesFault::EndsEarly)?;
+        *buf = rest;
+        IVec::from_slice(body)
     }
 
     fn put(&self, to: &mut Writer) {
-        put_string(self, to);
-    }
-}
-
-impl Piece for Value {
-    ghost Meaning = { Str };
-
-    ghost meaning = { bytes_of };
-
-    ghost bytes = { str_bytes };
-
-    ghost parse = { parse_string 40 };
-
-    ghost Fits = { FitsString 40 };
-
-    ghost most = { 41 };
-
-    fn take(buf: &mut &[u8]) -> Result<Value, BytesFault> {
-        take_string(buf)
-    }
-
-    fn put(&self, to: &mut Writer) {
-        put_string(self, to);
+        put_groups(self.len() as u64, 9, to);
+        to.extend(self.as_slice());
     }
 }
 

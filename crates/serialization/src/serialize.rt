@@ -13,6 +13,7 @@ pub const PAYLOAD: usize = 1152;
 pub struct Free;
 
 // A type whose values are kept as bytes.
+// Kept: what it says of the bytes stands in `Piece` too: that is the crate's own, and a type of a caller's is none.
 pub trait Serialize: Sized {
     // What a value means.
     ghost Value: { Type 0 };
@@ -29,6 +30,7 @@ pub trait Serialize: Sized {
     ghost Fits: { Value → Type 0 };
 
     // Writes the bytes to the front of a scratch, and says how many they are.
+    // Kept: the caller lends the scratch and keeps it, so the length comes beside it.
     fn serialize_into(&self, buf: &mut [u8]) -> Result<usize, BytesFault>
         ensures writes { Writes (bytes (value self.now)) buf.old buf.new result }
         ensures fits { OnOk result (Fits (value self.now)) };
@@ -47,13 +49,9 @@ fn read_whole<S: Serialize + Drop>(payload: &[u8]) -> Result<S, BytesFault>
     ensures { Decodes S.value (whole (S.parse payload.now)) result }
 {
     let mut rest = payload;
-    let read = S::deserialize(&mut rest);
-    let whole = rest.is_empty();
-    match read {
-        Ok(value) if whole => Ok(value),
-        Err(BytesFault::Unlawful) if whole => Err(BytesFault::Unlawful),
-        Ok(_) | Err(BytesFault::Unlawful) => Err(BytesFault::LeftOver),
-        Err(fault) => Err(fault),
+    match S::deserialize(&mut rest) {
+        Ok(_) | Err(BytesFault::Unlawful) if !rest.is_empty() => Err(BytesFault::LeftOver),
+        read => read,
     }
 }
 

@@ -39,7 +39,8 @@ impl Tape {
     }
 }
 
-// Kept: what passes a call on to the book is a line; a trait over both logs would have to lend the book past their ghost fields.
+// Kept: what passes a call on to the book is a line each; a trait over both logs would have to lend the book past their ghost
+// fields, and of one generic log two crates could not each have a `new`.
 impl Log for Tape {
     ghost means = { tape_means };
 

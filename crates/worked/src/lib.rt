@@ -6,5 +6,4 @@ ghost use Rattle.worked.specs.Examples.{Examples};
 // Every example of the table holds.
 pub fn table_stands()
     ensures { Examples }
-{
-}
+{}

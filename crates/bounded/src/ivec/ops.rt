@@ -58,10 +58,7 @@ impl<const N: usize> IVec<N> {
         ensures { bytes_of result ≡ drop n (bytes_of self.now) }
     {
         let start = n.min(self.len());
-        let Ok(rest) = IVec::from_slice(&self.as_slice()[start..]) else {
-            unreachable!()
-        };
-        rest
+        IVec::from_slice(&self.as_slice()[start..]).unwrap()
     }
 }
 
@@ -73,7 +70,7 @@ impl<const N: usize> Default for IVec<N> {
     }
 }
 
-// Kept: a derive would also read what lies past the length; as a string is its bytes, so are these the comparisons of slices.
+// Kept: tried, and the laws of a derived order do not close: it would compare the array and then the length, and the order of strings is that of their bytes.
 impl<const N: usize> PartialEq for IVec<N> {
     ghost eq = { same_bytes };
 

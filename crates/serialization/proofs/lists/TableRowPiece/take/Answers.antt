@@ -39,7 +39,7 @@ loop-preserved g c =
     let l = c.loop in
     let m = row_of v.meaning in
     let n = l.invariant.0 in
-    let pushed = c.in-Ok.ensures.1 in (
+    let pushed = (rw c.unwrap.ensures at c.push.ensures).1 in (
       ap length pushed ∙ length-append (rows_of l.rows) (c.in_ok-row.row ∷ []) ∙ omega arith,
       rows_again parse c.in_ok-count.count l.counter (map m (rows_of l.rows)) l.buf.now (times parse c.in_ok-count.count c.take.new.buf.now) l.invariant.1 (map m (rows_of c.push.new.self)) (m c.in_ok-row.row) c.take-in-loop.new.buf.now c.loop-test.true c.in_ok-row.ensures (ap (map m) pushed ∙ map-append m (rows_of l.rows) (c.in_ok-row.row ∷ [])),
     )
