@@ -13,10 +13,9 @@ use logs::{
 
 impl Book {
     // A book of no messages, in room that is lent for their headers, over this memory.
-    pub fn new(number: u64, heads: Vec<Head>, mem: Vec<u8>) -> Book
+    pub fn new(number: u64, mut heads: Vec<Head>, mem: Vec<u8>) -> Book
         ensures { Begun number heads mem result }
     {
-        let mut heads = heads;
         heads.clear();
         Book {
             number,
@@ -172,7 +171,7 @@ impl Book {
         requires { vec_len self.old.mem + length payload.now ≤ vec_capacity self.old.mem }
         ensures { Extended self.old self.new payload.now }
     {
-        let _ = self.mem.extend_from_slice(payload);
+        self.mem.extend_from_slice(payload).unwrap();
     }
 
     // Dead and cancelled messages leave.

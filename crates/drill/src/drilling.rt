@@ -1,9 +1,9 @@
 // Random calls on a log, and what a plain model says of each.
-use crate::model::{Model, Plain, Shape};
+use crate::model::{HEADER, Model, Plain, Step};
 use crate::random::Random;
 use crate::tally::{Tally, count};
 use fault::{DiskPtr, PageId};
-use logs::{CacheInfo, Kind, Log, LogFault, Reservation, Returned, Status};
+use logs::{CacheInfo, Kind, Log, LogFault, MAX_PAYLOAD, Reservation, Returned, Status};
 use std::alloc::AllocError;
 
 #[derive(Drop)]
@@ -55,7 +55,7 @@ fn refused(got: Result<Reservation, LogFault>, fault: LogFault) -> bool {
 
 // While it is pending nothing else is reserved, and it is not read.
 fn refuses_meanwhile<L: Log>(log: &mut L, page: PageId, reservation: &Reservation) -> bool {
-    let mut scratch = [0u8; 1152];
+    let mut scratch = [0u8; MAX_PAYLOAD];
     let pointer = reservation.pointer();
     let read = log.read(page, reservation.lsn(), pointer, &mut scratch);
     let other = log.reserve(page, Kind::Free, b"");
@@ -82,8 +82,8 @@ fn is_zero(bytes: &[u8]) -> bool {
 }
 
 // Whether so many bytes are a payload's, and the others zero.
-fn is_filled(bytes: &[u8; 1152], seed: u8, len: usize) -> bool {
-    let mut expected = [0u8; 1152];
+fn is_filled(bytes: &[u8; MAX_PAYLOAD], seed: u8, len: usize) -> bool {
+    let mut expected = [0u8; MAX_PAYLOAD];
     let Some(payload) = expected.get_mut(..len) else {
         return false;
     };
@@ -131,30 +131,27 @@ impl<L: Log> Drill<L> {
     }
 
     // A pending message is settled, and the model has it too.
-    fn finish(
-        &mut self,
-        reservation: Reservation,
-        plain: Plain,
-        shape: Shape,
-    ) -> Result<(), AllocError> {
+    fn finish(&mut self, reservation: Reservation, step: Step) -> Result<(), AllocError> {
+        let Step { plain, shape } = step;
         let same = reservation.lsn() == plain.lsn && reservation.pointer() == plain.pointer;
         let alone = refuses_meanwhile(&mut self.log, plain.page, &reservation)
             && refuses_strangers(&mut self.log, &reservation);
         let (taken, status) = self.settle(reservation);
         let taken = taken.map_err(Returned::give_up).is_ok();
         self.tally.expect(same && alone && taken);
-        self.model.add(Plain { status, ..plain }, shape)
+        let plain = Plain { status, ..plain };
+        self.model.add(Step { plain, shape })
     }
 
-    // What a call that reserves for a page did, and what the model says of it: the message, and the shape after that.
+    // What a call that reserves for a page did, and what the model says of it.
     fn compare(
         &mut self,
         page: PageId,
         got: Result<Reservation, LogFault>,
-        expected: Option<(Plain, Shape)>,
+        expected: Option<Step>,
     ) -> Result<(), AllocError> {
         match (got, expected) {
-            (Ok(reservation), Some((plain, shape))) => self.finish(reservation, plain, shape),
+            (Ok(reservation), Some(step)) => self.finish(reservation, step),
             (got, None) => {
                 if got.is_err() {
                     count(&mut self.tally.full);
@@ -186,7 +183,7 @@ impl<L: Log> Drill<L> {
                 seed,
                 status: Status::Pending,
             };
-            (plain, shape)
+            Step { plain, shape }
         });
         let got = self.log.reserve(page, kind, &bytes[..len]);
         self.compare(page, got, expected)
@@ -209,13 +206,13 @@ impl<L: Log> Drill<L> {
         match (pointer, self.model.live_at(lsn, pointer)) {
             (DiskPtr::Blob(_, slot), Some(source)) => {
                 count(&mut self.tally.moved);
-                let expected = self.model.inline_place(32).map(|(lid, shape)| {
+                let expected = self.model.inline_place(HEADER).map(|(lid, shape)| {
                     let plain = Plain {
                         lsn: self.model.next,
                         pointer: DiskPtr::Blob(lid, slot),
                         ..source
                     };
-                    (plain, shape)
+                    Step { plain, shape }
                 });
                 self.compare(page, got, expected)
             }
@@ -233,7 +230,7 @@ impl<L: Log> Drill<L> {
             return;
         };
         let page = self.page_for(&plain);
-        let mut scratch = [0u8; 1152];
+        let mut scratch = [0u8; MAX_PAYLOAD];
         let got = self.log.read(page, plain.lsn, plain.pointer, &mut scratch);
         let same = match self.model.live_at(plain.lsn, plain.pointer) {
             None => got == Err(LogFault::NoMessage(page, plain.pointer)) && is_zero(&scratch),

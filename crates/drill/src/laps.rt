@@ -3,7 +3,7 @@ ghost use Rattle.std.specs.Prelude.{◌<◌};
 
 use crate::random::Random;
 use fault::PageId;
-use logs::{CacheInfo, Kind, Log, LogFault, Returned};
+use logs::{CacheInfo, Kind, Log, LogFault, MAX_PAYLOAD, Returned};
 use std::io;
 use std::time::Instant;
 
@@ -19,6 +19,12 @@ pub struct Lap {
 }
 
 impl Lap {
+    // What no call takes longer than.
+    pub const SLOWEST: Lap = Lap {
+        write: u64::MAX,
+        read: u64::MAX,
+    };
+
     // The better of both.
     pub fn best(self, other: Lap) -> Lap {
         Lap {
@@ -45,7 +51,7 @@ fn write_many<L: Log>(log: &mut L) -> Result<(), LogFault> {
 
 // Reads messages at random, of which the one at i is page i's.
 fn read_many<L: Log>(log: &L, entries: &[CacheInfo]) -> Result<(), LogFault> {
-    let mut scratch = [0u8; 1152];
+    let mut scratch = [0u8; MAX_PAYLOAD];
     let mut random = Random::new(9);
     for _ in 0..READS {
         if let Some(i) = random.index(entries.len()) {

@@ -72,16 +72,13 @@ fn time<L: Log + Drop, F: Fn() -> io::Result<L>>(
 ) -> io::Result<()>
     requires { F.IsAlwaysCallable make }
 {
-    let mut fastest = run_lap(rt, &mut make()?, count)?;
-    for _ in 1..20 {
+    let mut best = Ok(Lap::SLOWEST);
+    for _ in 0..20 {
         let lap = run_lap(rt, &mut make()?, count)?;
-        fastest = fastest.and_then(|best| lap.map(|lap| best.best(lap)));
+        best = best.and_then(|best| lap.map(|lap| Lap::best(best, lap)));
     }
-    let all = fastest.is_ok();
-    let Lap { write, read } = fastest.unwrap_or(Lap {
-        write: u64::MAX,
-        read: u64::MAX,
-    });
+    let all = best.is_ok();
+    let Lap { write, read } = best.unwrap_or(Lap::SLOWEST);
     println!(rt;
         "{name}, {count} of {MESSAGES} messages: reserve and complete {write} ns, read {read} ns, all done {all}"
     )

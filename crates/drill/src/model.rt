@@ -1,8 +1,17 @@
 // A plain model of a log: a list of messages, each of which knows how its bytes were made.
 use fault::{BlobPointer, DiskPtr, LogOffset, PageId};
-use logs::{CacheInfo, Kind, Position, Status};
+use logs::{CacheInfo, HEADER_LEN, Kind, MAX_PAYLOAD, Position, Status};
 use std::alloc::{AllocError, Global};
 use std::fmt;
+
+// How many bytes a segment has.
+const SEGMENT_LEN: u64 = 4096;
+
+// The longest payload that lies in a segment.
+const MAX_INLINE: u64 = 512;
+
+// How many bytes a header has.
+pub const HEADER: u64 = HEADER_LEN as u64;
 
 #[derive(Clone, Copy)]
 pub struct Plain {
@@ -32,6 +41,13 @@ pub struct Segments {
     pub fill: u64,
 }
 
+// A message to come, and the shape after it.
+#[derive(Clone, Copy)]
+pub struct Step {
+    pub plain: Plain,
+    pub shape: Shape,
+}
+
 #[derive(Drop)]
 pub struct Model {
     pub plains: Vec<Plain>,
@@ -42,7 +58,7 @@ pub struct Model {
 
 // Where a segment begins.
 fn offset_of(segment: u64) -> LogOffset {
-    segment.saturating_mul(4096)
+    segment.saturating_mul(SEGMENT_LEN)
 }
 
 impl Plain {
@@ -55,7 +71,7 @@ impl Plain {
     }
 
     fn lies_in(&self, segment: u64) -> bool {
-        self.pointer.lid() / 4096 == segment
+        self.pointer.lid() / SEGMENT_LEN == segment
     }
 
     fn points_to(&self, slot: BlobPointer) -> bool {
@@ -138,7 +154,7 @@ impl Model {
     fn place_in(&self, segments: Segments, bytes: u64) -> Option<(LogOffset, Segments)> {
         let Segments { active, fill, .. } = segments;
         let after = fill.saturating_add(bytes);
-        if after <= 4096 {
+        if after <= SEGMENT_LEN {
             let at = offset_of(active).saturating_add(fill);
             return Some((
                 at,
@@ -161,17 +177,17 @@ impl Model {
 
     // Where a payload goes, and the shape after that.
     pub fn place(&self, len: u64) -> Option<(DiskPtr, Shape)> {
-        if len > 1152 {
+        if len > MAX_PAYLOAD as u64 {
             return None;
         }
         if let Shape::Segments(segments) = self.shape
-            && len > 512
+            && len > MAX_INLINE
         {
             let slot = self.free_slot(segments.slots)?;
-            let (lid, after) = self.inline_place(32)?;
+            let (lid, after) = self.inline_place(HEADER)?;
             return Some((DiskPtr::Blob(lid, slot), after));
         }
-        let (lid, after) = self.inline_place(len.saturating_add(32))?;
+        let (lid, after) = self.inline_place(len.saturating_add(HEADER))?;
         Some((DiskPtr::Inline(lid), after))
     }
 }
@@ -205,10 +221,10 @@ impl Model {
     }
 
     // One more message.
-    pub fn add(&mut self, plain: Plain, shape: Shape) -> Result<(), AllocError> {
-        self.plains.push(plain)?;
+    pub fn add(&mut self, step: Step) -> Result<(), AllocError> {
+        self.plains.push(step.plain)?;
         self.next = self.next.saturating_add(1);
-        self.shape = shape;
+        self.shape = step.shape;
         Ok(())
     }
 

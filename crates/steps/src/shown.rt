@@ -2,7 +2,7 @@
 use crate::listed::Listed;
 use book::Head;
 use fault::{DiskPtr, PageId};
-use logs::{CacheInfo, Log, LogFault};
+use logs::{CacheInfo, Log, LogFault, MAX_PAYLOAD};
 use std::io;
 
 pub fn show_entry(
@@ -23,7 +23,7 @@ pub fn show_read<L: Log>(
     page: PageId,
     entry: CacheInfo,
 ) -> io::Result<()> {
-    let mut scratch = [0u8; 1152];
+    let mut scratch = [0u8; MAX_PAYLOAD];
     let lsn = entry.lsn;
     match log.read(page, lsn, entry.pointer, &mut scratch) {
         Ok((kind, n)) => println!(rt;
