@@ -10,6 +10,7 @@ pub type Position = u64;
 pub const POSITION_END: Position = 1 << 62;
 
 // The longest payload, in bytes.
+// Kept: as many as `serialization` makes at most; a log takes any bytes, so that neither crate builds on the other.
 pub const MAX_PAYLOAD: usize = 1152;
 
 // What a message takes of its log beside its payload, in bytes.

@@ -48,6 +48,7 @@ impl Reservation {
     }
 
     // The entry that names its message, with no stamp and no size yet.
+    // Kept: 0 for none yet is the form of sled's entries, which only the cache gives a stamp and a size.
     pub fn entry(&self) -> CacheInfo
         ensures { result ≡ entry_of self.now }
     {

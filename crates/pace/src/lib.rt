@@ -66,6 +66,7 @@ fn applied(times: u64) -> Result<u64, ValueFault> {
 }
 
 // The sum, or the refusal's number.
+// Kept: a number for either is all that C is answered.
 fn told(sum: Result<u64, ValueFault>) -> u64 {
     sum.unwrap_or_else(|fault| u64::from(fault.number()))
 }

@@ -51,6 +51,8 @@ impl Session {
         }
     }
 
+    // Kept: that a refused command changes nothing is a clause of each call; a type could say it of a copy only.
+
     // Applies a link to the held node.
     fn link(&mut self, change: &Change) -> Result<Answer, ValueFault>
         ensures same { OnErr result (Same self.old self.new) }

@@ -62,6 +62,7 @@ impl<const N: usize> IVec<N> {
     }
 }
 
+// Kept: an array of any size has no Default that a derive could call.
 impl<const N: usize> Default for IVec<N> {
     ghost is_default = { λ v. bytes_of v ≡ [] };
 
