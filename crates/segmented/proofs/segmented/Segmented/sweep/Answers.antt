@@ -5,6 +5,3 @@ use Rattle.segmented.proofs.segmented.Segmented.sweep.Goals as goal
 pub invariant_of-self : goal.invariant_of-self
 invariant_of-self c =
     record { kept = lives_keeps c.args.self.now c.compact.new.self c.compact.ensures }
-
-pub returns : goal.returns
-returns c = record { book = c.compact.ensures; segs = refl; slots = refl; fill = refl }

@@ -8,8 +8,3 @@ pub invariant_of-self : goal.invariant_of-self
 invariant_of-self c =
     let s = c.args.self.now in
     record { kept = kin_keeps s c.settle.new.self (settle-kin s.book c.settle.new.self c.args.reservation Complete c.settle.result c.settle.ensures) }
-
-pub returns : goal.returns
-returns c =
-    let s = c.args.self.now in
-    on-settle (seg_fits s.segs s.slots s.active s.fill) (λ b. ready s.segs s.active s.fill b 32) s.book c.settle.new.self c.args.reservation Complete c.settle.result c.settle.ensures

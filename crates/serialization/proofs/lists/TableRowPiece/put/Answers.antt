@@ -12,9 +12,6 @@ use Rattle.serialization.proofs.Writing.{puts_then, puts_as}
 use Rattle.serialization.proofs.Listed.{rooms, kept_none, kept_more}
 use Rattle.serialization.proofs.lists.TableRowPiece.put.Goals as goal
 
-pub loop-row-init : goal.loop-row-init
-loop-row-init g c = let v = g.V.Piece in kept_none (row_of v.meaning) (row_bytes v.bytes) (FitsRow v.Fits) (25 + v.most) c.as_slice-row-items.result.now c.put.new.to
-
 pub put-requires-in-loop-row : goal.put-requires-in-loop-row
 put-requires-in-loop-row g c =
     let l = c.loop-row in

@@ -10,19 +10,6 @@ use Rattle.serialization.specs.Calls.{Stops}
 use Rattle.serialization.proofs.Reading.{stops_then, list_long, list_within, rows_start, rows_again, rows_stop, rows_end}
 use Rattle.serialization.proofs.lists.TableRowPiece.take.Goals as goal
 
-pub returns-in_err-count : goal.returns-in_err-count
-returns-in_err-count g c =
-    let p = err_from_is_err_and c.from_residual.result c.from_residual.ensures.1 in
-    rw (p.1, p.2) (stops_then _ _ c.in_err-count.field-0.0 c.in_err-count.ensures)
-
-pub returns-then-count : goal.returns-then-count
-returns-then-count g c = list_long (parse_row g.V.Piece.parse) g.row.N c.in_ok-count.count c.args.buf.now.now c.take.new.buf.now c.in_ok-count.ensures c.if-count.true
-
-pub loop-init : goal.loop-init
-loop-init g c =
-    let e = c.new-rows.ensures in
-    (ap length e, rows_start (parse_row g.V.Piece.parse) (map (row_of g.V.Piece.meaning) (rows_of c.new-rows.result)) c.in_ok-count.count c.take.new.buf.now (ap (map (row_of g.V.Piece.meaning)) e))
-
 pub returns-in_err-row : goal.returns-in_err-row
 returns-in_err-row g c =
     let v = g.V.Piece in

@@ -9,8 +9,3 @@ pub invariant_of-self : goal.invariant_of-self
 invariant_of-self c =
     let t = c.args.self.now in
     record { kept = kin_keeps t.room (settle-kin t.book c.settle.new.self c.args.reservation Complete c.settle.result c.settle.ensures) t.kept }
-
-pub returns : goal.returns
-returns c =
-    let t = c.args.self.now in
-    on-settle (tape_fits t.room) (λ _. false) t.book c.settle.new.self c.args.reservation Complete c.settle.result c.settle.ensures
