@@ -30,8 +30,8 @@ loop-row-preserved g c =
     let p = c.put-in-loop-row.ensures in
     kept_more (row_of v.meaning) (row_bytes v.bytes) (FitsRow v.Fits) (25 + v.most) c.as_slice-row-items.result.now l.row-index c.put.new.to l.to c.put-in-loop-row.new.to c.row-item.result c.loop-row-test.true c.row-item.is l.invariant (omega (arith, c.put.ensures.puts.ends, c.put.ensures.puts.room, c.put.ensures.bound)) p.puts p.bound p.fits
 
-pub returns : goal.returns
-returns g c =
+pub returns-clause-puts : goal.returns-clause-puts
+returns-clause-puts g c =
     let v = g.V.Piece in
     let l = c.loop-row in
     let m = row_of v.meaning in
@@ -39,14 +39,7 @@ returns g c =
     let rows = c.as_slice-row-items.result.now in
     let own = rows_of c.args.self.now in
     let few = few-rows c.args.self.now in
-    let n = ap length c.as_slice-row-items.ensures in
     let size = length-map own m in
     let all : map m (take l.row-index rows) ≡ map m own = ap (map m) (take_all l.row-index rows c.loop-row-test.false ∙ c.as_slice-row-items.ensures) in
     let e : number c.len.result ++ each f (map m (take l.row-index rows)) ≡ list_bytes f (map m own) = λ j. number ((c.len.ensures.0 ∙ sym size) j) ++ each f (all j) in
-    let whole = ap length (sym e) ∙ length-append (number c.len.result) (each f (map m (take l.row-index rows))) in
-    let most = mul-le-mul_right {m = l.row-index} {n = g.row.N} (25 + v.most) (omega arith) in
-    record {
-      puts = puts_as e (puts_then c.put.ensures.puts (omega (arith, c.put.ensures.bound)) l.invariant.puts);
-      bound = omega (arith, whole, most, l.invariant.few, c.put.ensures.bound);
-      fits = (omega (arith, size), subst (λ (xs : List (Row v.Meaning)). Every (FitsRow v.Fits) xs) all l.invariant.fit);
-    }
+    puts_as e (puts_then c.put.ensures.puts (omega (arith, c.put.ensures.bound)) l.invariant.puts)
