@@ -1,3 +1,5 @@
+use Rattle.std.proofs.Common.{arith}
+use Rattle.std.proofs.lemmas.Grind.{common_steps}
 use Rattle.std.proofs.Common.{◌≡◌, Err, None, Some, rules}
 use Rattle.std.proofs.lemmas.Result.{err_from_is_err_and}
 use Rattle.fault.specs.declared.bytes_fault.BytesFault.TheVariants.{EndsEarly}
@@ -5,12 +7,10 @@ use Rattle.serialization.proofs.Reading.{string_long, string_short, string_taken
 use Rattle.serialization.proofs.piece.take_string.Goals as goal
 
 pub returns-in_err-len : goal.returns-in_err-len
-returns-in_err-len g c =
-    let p = err_from_is_err_and c.from_residual.result c.from_residual.ensures.1 in
-    rw (p.1, p.2) (string_stops g.row.N c.args.buf.now.now c.in_err-len.field-0.0 c.in_err-len.ensures)
+returns-in_err-len g c = grind (arith, common_steps, err_from_is_err_and, string_stops)
 
 pub returns-then-len : goal.returns-then-len
-returns-then-len g c = string_long g.row.N c.in_ok-len.len c.args.buf.now.now c.take.new.buf.now c.in_ok-len.ensures c.if-len.true
+returns-then-len g c = grind (arith, common_steps, string_long)
 
 pub returns-in_err-body : goal.returns-in_err-body
 returns-in_err-body g c =

@@ -1,9 +1,11 @@
+use Rattle.std.proofs.Common.{arith}
+use Rattle.std.proofs.lemmas.Grind.{common_steps}
 use Rattle.std.proofs.lemmas.List.{take_more, take_all}
 use Rattle.book.proofs.Pages.{marks_none, marks_more, marks_all}
 use Rattle.book.proofs.book.Book.mark.Goals as goal
 
 pub loop-e-init : goal.loop-e-init
-loop-e-init c = marks_none c.args.self.now c.args.page
+loop-e-init c = grind (arith, common_steps, marks_none)
 
 pub loop-e-preserved : goal.loop-e-preserved
 loop-e-preserved c =

@@ -1,4 +1,6 @@
 -- One message meets an event, and only its state may change.
+use Rattle.std.proofs.Common.{arith}
+use Rattle.std.proofs.lemmas.Grind.{common_steps}
 use Rattle.std.proofs.Common.{length, get_or, set, refl, ap, ◌∙◌, rules}
 use Rattle.std.proofs.lemmas.List.{get_or_read}
 use Rattle.logs.specs.Meaning.{met}
@@ -10,10 +12,4 @@ use Rattle.book.proofs.Headers.{ranked_restated, calm_restated, met-calm}
 use Rattle.book.proofs.book.Book.meet.Goals as goal
 
 pub invariant_of-self : goal.invariant_of-self
-invariant_of-self c =
-    let b = c.args.self.now in
-    let x = c.index_mut.result.now in record {
-      first = b.first;
-      ranks = ranked_restated b.next (length (mem_of b)) (heads_of b) c.args.i x c.meet.new.self c.index_mut.ensures.value b.ranks;
-      last = calm_restated (heads_of b) c.args.i x c.meet.new.self c.index_mut.ensures.value (λ h. rw c.meet.ensures (met-calm x.status c.args.event h)) b.last;
-    }
+invariant_of-self c = grind (arith, common_steps, ranked_restated, calm_restated, met-calm)

@@ -1,3 +1,5 @@
+use Rattle.std.proofs.Common.{arith}
+use Rattle.std.proofs.lemmas.Grind.{common_steps}
 use Rattle.std.proofs.Common.{◌≡◌, Some, None, Err, ap, sym, ◌∙◌, rules}
 use Rattle.fault.specs.declared.node_fault.NodeFault.TheVariants.{NoPointer}
 use Rattle.node.specs.Meanings.{data_of}
@@ -12,7 +14,4 @@ returns c =
     record { does = h.0; ordered = h.1 }
 
 pub returns-in_err-i-clause-does : goal.returns-in_err-i-clause-does
-returns-in_err-i-clause-does c =
-    let r : c.from_residual.result ≡ Err NoPointer = search rules in
-    let p : c.place_of.result ≡ None = search rules in
-    rw r (confirm_refused c.args.self.now c.in-Index.rows c.in-Index.is c.args.merged_child_pid c.as_slice.result.now c.as_slice.ensures (rw p at c.place_of.ensures), ap data_of (sym c.in-Index.is))
+returns-in_err-i-clause-does c = grind (arith, common_steps, confirm_refused)

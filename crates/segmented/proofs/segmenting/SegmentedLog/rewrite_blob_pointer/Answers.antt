@@ -1,3 +1,5 @@
+use Rattle.std.proofs.Common.{arith}
+use Rattle.std.proofs.lemmas.Grind.{common_steps}
 use Rattle.std.proofs.Common.{Err, ◌≡◌, Some, None, sym, refl, ◌∙◌, rules}
 use Rattle.logs.specs.declared.log_fault.LogFault.TheVariants.{NoMessage}
 use Rattle.book.proofs.Pages.{found-index}
@@ -6,12 +8,7 @@ use Rattle.segmented.proofs.Putting.{no_slot, blob-home, there-blob, moved}
 use Rattle.segmented.proofs.segmenting.SegmentedLog.rewrite_blob_pointer.Goals as goal
 
 pub returns-in_err-i : goal.returns-in_err-i
-returns-in_err-i c =
-    let s = c.args.self.now in
-    let none : c.slot_of.result ≡ None = search rules in
-    let n : SlotOf c.args.pointer None = rw none at c.slot_of.ensures in
-    let refused : c.from_residual.result ≡ Err (NoMessage c.args.pid c.args.pointer) = search rules in
-    rw refused (refl, (refl, refl, no_slot s c.args.lsn c.args.pointer n))
+returns-in_err-i c = grind (arith, common_steps, no_slot)
 
 pub returns-then-any_pending : goal.returns-then-any_pending
 returns-then-any_pending c =

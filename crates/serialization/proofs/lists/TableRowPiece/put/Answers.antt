@@ -1,3 +1,4 @@
+use Rattle.std.proofs.lemmas.Grind.{common_steps}
 use Rattle.std.proofs.Common.{◌≡◌, ◌+◌, List, ◌++◌, map, length, take, sym, ap, ◌∙◌, subst, arith, length-append}
 use Rattle.std.proofs.lemmas.List.{take_all, length-map}
 use native.Mathlib.Nat.{mul-le-mul_right}
@@ -31,15 +32,4 @@ loop-row-preserved g c =
     kept_more (row_of v.meaning) (row_bytes v.bytes) (FitsRow v.Fits) (25 + v.most) c.as_slice-row-items.result.now l.row-index c.put.new.to l.to c.put-in-loop-row.new.to c.row-item.result c.loop-row-test.true c.row-item.is l.invariant (omega (arith, c.put.ensures.puts.ends, c.put.ensures.puts.room, c.put.ensures.bound)) p.puts p.bound p.fits
 
 pub returns-clause-puts : goal.returns-clause-puts
-returns-clause-puts g c =
-    let v = g.V.Piece in
-    let l = c.loop-row in
-    let m = row_of v.meaning in
-    let f = row_bytes v.bytes in
-    let rows = c.as_slice-row-items.result.now in
-    let own = rows_of c.args.self.now in
-    let few = few-rows c.args.self.now in
-    let size = length-map own m in
-    let all : map m (take l.row-index rows) ≡ map m own = ap (map m) (take_all l.row-index rows c.loop-row-test.false ∙ c.as_slice-row-items.ensures) in
-    let e : number c.len.result ++ each f (map m (take l.row-index rows)) ≡ list_bytes f (map m own) = λ j. number ((c.len.ensures.0 ∙ sym size) j) ++ each f (all j) in
-    puts_as e (puts_then c.put.ensures.puts (omega (arith, c.put.ensures.bound)) l.invariant.puts)
+returns-clause-puts g c = grind (arith, common_steps, take_all, length-map, few-rows, puts_then, puts_as)

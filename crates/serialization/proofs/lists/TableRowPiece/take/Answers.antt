@@ -1,3 +1,4 @@
+use Rattle.std.proofs.lemmas.Grind.{common_steps}
 use Rattle.std.proofs.Common.{List, [], ◌∷◌, map, length, sym, ap, ◌∙◌, subst, arith, length-append}
 use Rattle.std.proofs.lemmas.List.{map-append}
 use Rattle.std.proofs.lemmas.Result.{err_from_is_err_and}
@@ -11,13 +12,7 @@ use Rattle.serialization.proofs.Reading.{stops_then, list_long, list_within, row
 use Rattle.serialization.proofs.lists.TableRowPiece.take.Goals as goal
 
 pub returns-in_err-row : goal.returns-in_err-row
-returns-in_err-row g c =
-    let v = g.V.Piece in
-    let parse = parse_row v.parse in
-    let p = err_from_is_err_and c.from_residual-in_err-row.result c.from_residual-in_err-row.ensures.1 in
-    let l = c.loop in
-    let s = rows_stop parse c.in_ok-count.count l.counter (map (row_of v.meaning) (rows_of l.rows)) l.buf.now (times parse c.in_ok-count.count c.take.new.buf.now) l.invariant.1 c.in_err-row.field-0.0 c.loop-test.true c.in_err-row.ensures in
-    rw (p.1, p.2) (subst (λ (q : Parsed (List (Row v.Meaning))). Stops q c.in_err-row.field-0.0) (sym (list_within parse g.row.N c.in_ok-count.count c.args.buf.now.now c.take.new.buf.now c.in_ok-count.ensures c.if-count.false)) s)
+returns-in_err-row g c = grind (arith, common_steps, err_from_is_err_and, list_within, rows_stop)
 
 pub loop-preserved : goal.loop-preserved
 loop-preserved g c =

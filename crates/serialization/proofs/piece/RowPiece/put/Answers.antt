@@ -1,6 +1,7 @@
+use Rattle.std.proofs.lemmas.Grind.{common_steps}
 use Rattle.std.proofs.Common.{arith}
 use Rattle.serialization.proofs.Writing.{puts_then}
 use Rattle.serialization.proofs.piece.RowPiece.put.Goals as goal
 
 pub returns-clause-puts : goal.returns-clause-puts
-returns-clause-puts g c = puts_then c.put.ensures.puts (omega arith) c.put-2.ensures.puts
+returns-clause-puts g c = grind (arith, common_steps, puts_then)
