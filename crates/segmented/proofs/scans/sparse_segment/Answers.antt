@@ -10,9 +10,7 @@ loop-h-preserved-then-not-live_in c =
     (c.loop-h.invariant.0, omega (arith, c.loop-h.invariant.1, e), c.loop-h.invariant.2)
 
 pub loop-h-preserved : goal.loop-h-preserved
-loop-h-preserved c =
-    let e = count_more c.segments.q c.args.heads.now c.loop-h.h-index _ true c.loop-h-test.true (sym c.live_in.ensures ∙ c.if-not-live_in.false) in
-    (c.if-count-fewest.false, omega (arith, c.loop-h.invariant.1, e), c.loop-h.invariant.2)
+loop-h-preserved c = search (rules, count_more)
 
 pub segments-preserved-then-count-fewest : goal.segments-preserved-then-count-fewest
 segments-preserved-then-count-fewest c =

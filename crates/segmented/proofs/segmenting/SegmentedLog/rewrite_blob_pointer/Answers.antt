@@ -29,11 +29,4 @@ put_pointer-requires c =
     record { able = a.0.able; short = w.2; slot = rw a.0.slots w.0 }
 
 pub returns : goal.returns
-returns c =
-    let s = c.args.self.now in
-    let a = c.in_ok-make_ready.ensures in
-    let h = found-index s.book c.args.lsn c.args.pointer c.live_at.result c.in_ok-j.j (search rules) c.live_at.ensures in
-    let slot : c.slot_of.result ≡ Some c.in_ok-i.i = search rules in
-    let b : SlotOf c.args.pointer (Some c.in_ok-i.i) = rw slot at c.slot_of.ensures in
-    moved s c.make_ready.new.self c.put_pointer.new.self c.args.pid c.args.lsn c.args.pointer c.in_ok-i.i c.in_ok-j.j c.index-h.result.now c.put_pointer.result h c.index-h.ensures b.0 b.1
-    (sym c.any_pending.ensures ∙ c.if-any_pending.false) a.0 a.1 c.put_pointer.ensures.put c.put_pointer.ensures.same
+returns c = grind (arith, found-index, moved)

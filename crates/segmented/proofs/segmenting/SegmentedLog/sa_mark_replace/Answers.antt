@@ -1,8 +1,8 @@
+use Rattle.std.proofs.Common.{rules}
 use Rattle.book.proofs.Logs.{on-mark}
 use Rattle.segmented.specs.Segments.{seg_fits, ready}
 use Rattle.segmented.proofs.Kept.{kin_keeps}
 use Rattle.segmented.proofs.segmenting.SegmentedLog.sa_mark_replace.Goals as goal
 
 pub invariant_of-self : goal.invariant_of-self
-invariant_of-self c =
-    record { kept = kin_keeps c.args.self.now c.mark.new.self c.mark.ensures.kin }
+invariant_of-self c = search (rules, kin_keeps)

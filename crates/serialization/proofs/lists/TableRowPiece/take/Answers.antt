@@ -27,9 +27,4 @@ loop-preserved g c =
     )
 
 pub returns : goal.returns
-returns g c =
-    let v = g.V.Piece in
-    let parse = parse_row v.parse in
-    let l = c.loop in
-    list_within parse g.row.N c.in_ok-count.count c.args.buf.now.now c.take.new.buf.now c.in_ok-count.ensures c.if-count.false
-    ∙ rows_end parse c.in_ok-count.count l.counter (map (row_of v.meaning) (rows_of l.rows)) l.buf.now (times parse c.in_ok-count.count c.take.new.buf.now) l.invariant.1 c.loop-test.false
+returns g c = grind (arith, list_within, rows_end)

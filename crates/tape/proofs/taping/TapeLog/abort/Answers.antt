@@ -1,3 +1,4 @@
+use Rattle.std.proofs.Common.{rules}
 use Rattle.std.proofs.Common.{false}
 use Rattle.logs.specs.declared.messages.Event.TheVariants.{Abort}
 use Rattle.book.proofs.Logs.{settle-kin, on-settle}
@@ -6,6 +7,4 @@ use Rattle.tape.proofs.Tapes.{kin_keeps}
 use Rattle.tape.proofs.taping.TapeLog.abort.Goals as goal
 
 pub invariant_of-self : goal.invariant_of-self
-invariant_of-self c =
-    let t = c.args.self.now in
-    record { kept = kin_keeps t.room (settle-kin t.book c.settle.new.self c.args.reservation Abort c.settle.result c.settle.ensures) t.kept }
+invariant_of-self c = search (rules, settle-kin, kin_keeps)

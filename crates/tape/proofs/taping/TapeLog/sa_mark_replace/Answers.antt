@@ -1,3 +1,4 @@
+use Rattle.std.proofs.Common.{rules}
 use Rattle.std.proofs.Common.{false}
 use Rattle.book.proofs.Logs.{on-mark}
 use Rattle.tape.specs.Tapes.{tape_fits}
@@ -5,6 +6,4 @@ use Rattle.tape.proofs.Tapes.{kin_keeps}
 use Rattle.tape.proofs.taping.TapeLog.sa_mark_replace.Goals as goal
 
 pub invariant_of-self : goal.invariant_of-self
-invariant_of-self c =
-    let t = c.args.self.now in
-    record { kept = kin_keeps t.room c.mark.ensures.kin t.kept }
+invariant_of-self c = search (rules, kin_keeps)
