@@ -16,7 +16,7 @@ returns-in-Ok g c = λ up.
     set_found g.R.Key.Ord.cmp g.R.Keyed.key_of laws rows up c.args.row c.in-Ok.i g.row.N (rows_of c.replace.new.self) TableFull c.replace.result at c.replace.ensures
 
 pub returns-in_err-map_err-in-Err : goal.returns-in_err-map_err-in-Err
-returns-in_err-map_err-in-Err g c = λ up. grind (arith, common_steps, sought, set_full)
+returns-in_err-map_err-in-Err g c = λ up. grind (arith, set_full)
 
 pub returns-in_ok-map_err-in-Err : goal.returns-in_ok-map_err-in-Err
 returns-in_ok-map_err-in-Err g c = λ up.

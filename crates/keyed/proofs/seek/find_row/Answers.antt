@@ -8,7 +8,7 @@ use Rattle.keyed.proofs.Places.{found, missing, lookup-found, lookup-missing}
 use Rattle.keyed.proofs.seek.find_row.Goals as goal
 
 pub returns : goal.returns
-returns g c = λ up. search (rules, common_steps, found, lookup-found)
+returns g c = λ up. search (rules, found, lookup-found)
 
 pub returns-in_default : goal.returns-in_default
 returns-in_default g c = λ up.

@@ -9,4 +9,4 @@ use Rattle.serialization.proofs.piece.put_string.Goals as goal
 
 pub returns : goal.returns
 unfolding str_bytes
-returns g c = grind (arith, common_steps, number_small, groups-last, puts_then, puts_as)
+returns g c = grind (arith, common_steps, number_small, puts_then)

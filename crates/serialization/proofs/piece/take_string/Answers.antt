@@ -7,10 +7,10 @@ use Rattle.serialization.proofs.Reading.{string_long, string_short, string_taken
 use Rattle.serialization.proofs.piece.take_string.Goals as goal
 
 pub returns-in_err-len : goal.returns-in_err-len
-returns-in_err-len g c = grind (arith, common_steps, err_from_is_err_and, string_stops)
+returns-in_err-len g c = grind (arith, string_stops)
 
 pub returns-then-len : goal.returns-then-len
-returns-then-len g c = grind (arith, common_steps, string_long)
+returns-then-len g c = grind (arith, string_long)
 
 pub returns-in_err-body : goal.returns-in_err-body
 returns-in_err-body g c =

@@ -5,4 +5,4 @@ use Rattle.book.proofs.Headers.{pushed_ranked, calm_push}
 use Rattle.book.proofs.book.Book.append.Goals as goal
 
 pub invariant_of-self : goal.invariant_of-self
-invariant_of-self c = grind (arith, common_steps, pushed_ranked, calm_push)
+invariant_of-self c = grind (arith, pushed_ranked, calm_push)

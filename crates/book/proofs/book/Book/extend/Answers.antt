@@ -5,4 +5,4 @@ use Rattle.book.proofs.Headers.{grown, grown-ranked}
 use Rattle.book.proofs.book.Book.extend.Goals as goal
 
 pub invariant_of-self : goal.invariant_of-self
-invariant_of-self c = grind (arith, common_steps, grown, grown-ranked)
+invariant_of-self c = grind (arith, grown-ranked)

@@ -9,4 +9,4 @@ pub returns-then-index-page : goal.returns-then-index-page
 returns-then-index-page c = killed c.args.self.now c.args.page c.args.e.now c.in-Some.i c.index.result.now c.in-Some.ensures c.index.ensures c.meet.new.self c.if-index-page.true c.meet.ensures
 
 pub returns-in_default : goal.returns-in_default
-returns-in_default c = grind (arith, common_steps, spared, missed)
+returns-in_default c = grind (arith, spared, missed)

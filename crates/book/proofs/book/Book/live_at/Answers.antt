@@ -6,4 +6,4 @@ use Rattle.book.proofs.Headers.{live-at}
 use Rattle.book.proofs.book.Book.live_at.Goals as goal
 
 pub returns : goal.returns
-returns c = grind (arith, common_steps, live-at)
+returns c = grind (arith, live-at)

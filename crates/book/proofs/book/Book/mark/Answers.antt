@@ -6,7 +6,7 @@ use Rattle.book.proofs.Pages.{marks_none, marks_more, marks_all}
 use Rattle.book.proofs.book.Book.mark.Goals as goal
 
 pub loop-e-init : goal.loop-e-init
-loop-e-init c = grind (arith, common_steps, marks_none)
+loop-e-init c = grind (arith, marks_none)
 
 pub loop-e-preserved : goal.loop-e-preserved
 loop-e-preserved c = search (rules, take_more, marks_more)

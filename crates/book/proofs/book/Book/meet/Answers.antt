@@ -12,4 +12,4 @@ use Rattle.book.proofs.Headers.{ranked_restated, calm_restated, met-calm}
 use Rattle.book.proofs.book.Book.meet.Goals as goal
 
 pub invariant_of-self : goal.invariant_of-self
-invariant_of-self c = grind (arith, common_steps, ranked_restated, calm_restated, met-calm)
+invariant_of-self c = grind (arith, ranked_restated, calm_restated)

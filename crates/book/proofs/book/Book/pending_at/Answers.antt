@@ -6,4 +6,4 @@ use Rattle.book.proofs.Headers.{pending-at}
 use Rattle.book.proofs.book.Book.pending_at.Goals as goal
 
 pub returns : goal.returns
-returns c = grind (arith, common_steps, pending-at)
+returns c = grind (arith, pending-at)

@@ -5,4 +5,4 @@ use Rattle.bounded.proofs.Shifts.{opened}
 use Rattle.bounded.proofs.table.Table.insert.Goals as goal
 
 pub returns : goal.returns
-returns g c = grind (arith, common_steps, length-take-le, opened)
+returns g c = grind (arith, common_steps, opened)

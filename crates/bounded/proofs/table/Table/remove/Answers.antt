@@ -5,4 +5,4 @@ use Rattle.bounded.proofs.Shifts.{closed, among}
 use Rattle.bounded.proofs.table.Table.remove.Goals as goal
 
 pub returns : goal.returns
-returns g c = grind (arith, common_steps, length-take-le, closed, among)
+returns g c = grind (arith, common_steps, closed)

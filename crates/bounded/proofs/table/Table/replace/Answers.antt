@@ -6,4 +6,4 @@ use Rattle.bounded.proofs.Shifts.{among}
 use Rattle.bounded.proofs.table.Table.replace.Goals as goal
 
 pub returns : goal.returns
-returns g c = grind (arith, common_steps, take-set-lt, length-take-le, among)
+returns g c = grind (arith, take-set-lt, length-take-le, among)

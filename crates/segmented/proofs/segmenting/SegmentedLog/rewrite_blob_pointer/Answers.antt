@@ -8,7 +8,7 @@ use Rattle.segmented.proofs.Putting.{no_slot, blob-home, there-blob, moved}
 use Rattle.segmented.proofs.segmenting.SegmentedLog.rewrite_blob_pointer.Goals as goal
 
 pub returns-in_err-i : goal.returns-in_err-i
-returns-in_err-i c = grind (arith, common_steps, no_slot)
+returns-in_err-i c = grind (arith, no_slot)
 
 pub returns-then-any_pending : goal.returns-then-any_pending
 returns-then-any_pending c =
@@ -29,4 +29,4 @@ put_pointer-requires c =
     record { able = a.0.able; short = w.2; slot = rw a.0.slots w.0 }
 
 pub returns : goal.returns
-returns c = grind (arith, found-index, moved)
+returns c = grind (arith, moved)

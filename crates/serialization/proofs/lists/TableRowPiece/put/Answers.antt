@@ -32,4 +32,4 @@ loop-row-preserved g c =
     kept_more (row_of v.meaning) (row_bytes v.bytes) (FitsRow v.Fits) (25 + v.most) c.as_slice-row-items.result.now l.row-index c.put.new.to l.to c.put-in-loop-row.new.to c.row-item.result c.loop-row-test.true c.row-item.is l.invariant (omega (arith, c.put.ensures.puts.ends, c.put.ensures.puts.room, c.put.ensures.bound)) p.puts p.bound p.fits
 
 pub returns-clause-puts : goal.returns-clause-puts
-returns-clause-puts g c = grind (arith, common_steps, take_all, length-map, few-rows, puts_then, puts_as)
+returns-clause-puts g c = grind (arith, common_steps, puts_then)

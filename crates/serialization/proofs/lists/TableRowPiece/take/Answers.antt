@@ -12,7 +12,7 @@ use Rattle.serialization.proofs.Reading.{stops_then, list_long, list_within, row
 use Rattle.serialization.proofs.lists.TableRowPiece.take.Goals as goal
 
 pub returns-in_err-row : goal.returns-in_err-row
-returns-in_err-row g c = grind (arith, common_steps, err_from_is_err_and, list_within, rows_stop)
+returns-in_err-row g c = grind (arith, rows_stop)
 
 pub loop-preserved : goal.loop-preserved
 loop-preserved g c =
@@ -27,4 +27,4 @@ loop-preserved g c =
     )
 
 pub returns : goal.returns
-returns g c = grind (arith, list_within, rows_end)
+returns g c = grind (arith, rows_end)

@@ -4,4 +4,4 @@ use Rattle.serialization.proofs.Writing.{puts_then}
 use Rattle.serialization.proofs.piece.RowPiece.put.Goals as goal
 
 pub returns-clause-puts : goal.returns-clause-puts
-returns-clause-puts g c = grind (arith, common_steps, puts_then)
+returns-clause-puts g c = grind (arith, puts_then)

@@ -9,4 +9,4 @@ unfolding number
 returns-clause-puts c = grind (arith, common_steps)
 
 pub returns-clause-bound : goal.returns-clause-bound
-returns-clause-bound c = grind (arith, common_steps, length-number)
+returns-clause-bound c = grind (arith, length-number)

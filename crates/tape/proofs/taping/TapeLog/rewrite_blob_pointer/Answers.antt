@@ -6,4 +6,4 @@ use Rattle.book.proofs.Logs.{no_blob}
 use Rattle.tape.proofs.taping.TapeLog.rewrite_blob_pointer.Goals as goal
 
 pub returns : goal.returns
-returns c = grind (arith, common_steps, no_blob)
+returns c = grind (arith, no_blob)
