@@ -1,7 +1,5 @@
 -- The row at the place that the seek found, or none, is what lookup finds.
 use Rattle.std.proofs.Common.{rules}
-use Rattle.std.proofs.Common.{arith}
-use Rattle.std.proofs.lemmas.Grind.{common_steps}
 use Rattle.std.proofs.Common.{sym}
 use Rattle.keyed.specs.Rows.{probe}
 use Rattle.keyed.proofs.Places.{found, missing, lookup-found, lookup-missing}

@@ -1,7 +1,5 @@
-use Rattle.std.proofs.Common.{arith}
 use Rattle.std.proofs.Common.{rules}
 use Rattle.std.proofs.lemmas.Fn.{always_returns_same}
-use Rattle.keyed.specs.Order.{lawful}
 use Rattle.keyed.proofs.Places.{searched}
 use Rattle.keyed.proofs.seek.seek.Goals as goal
 

@@ -1,7 +1,5 @@
-use Rattle.std.proofs.Common.{◌+◌, true, false, sym, ap, ◌∙◌, inl, inr, arith, rules}
-use Rattle.std.proofs.lemmas.List.{take_all}
-use Rattle.segmented.specs.Layout.{count_live}
-use Rattle.segmented.proofs.Sparsest.{count_more, count_take, Sparse_pass, Sparse_best}
+use Rattle.std.proofs.Common.{◌+◌, true, false, sym, ◌∙◌, inr, arith, rules}
+use Rattle.segmented.proofs.Sparsest.{count_more, count_take, Sparse_pass}
 use Rattle.segmented.proofs.scans.sparse_segment.Goals as goal
 
 pub loop-h-preserved-then-not-live_in : goal.loop-h-preserved-then-not-live_in

@@ -1,5 +1,5 @@
 use Rattle.std.proofs.Common.{length, sym, ap, arith}
-use Rattle.serialization.specs.Numbering.{groups-last, tail-limit}
+use Rattle.serialization.specs.Numbering.{tail-limit}
 use Rattle.serialization.proofs.Writing.{puts_then, puts_as}
 use Rattle.serialization.proofs.groups.+put_groups.Goals as goal
 

@@ -1,10 +1,8 @@
 use Rattle.std.proofs.lemmas.Grind.{common_steps}
-use Rattle.std.proofs.Common.{◌≡◌, ◌<◌, ◌++◌, length, sym, ap, ◌∙◌, arith, length-append}
-use Rattle.bounded.specs.Bytes.{bytes_of}
-use Rattle.serialization.specs.Numbers.{number, groups}
+use Rattle.std.proofs.Common.{◌≡◌, ◌<◌, ◌++◌, ◌∙◌, arith}
 use Rattle.serialization.specs.Formats.{str_bytes}
-use Rattle.serialization.specs.Numbering.{number_small, groups-last}
-use Rattle.serialization.proofs.Writing.{puts_then, puts_as}
+use Rattle.serialization.specs.Numbering.{number_small}
+use Rattle.serialization.proofs.Writing.{puts_then}
 use Rattle.serialization.proofs.piece.put_string.Goals as goal
 
 pub returns : goal.returns

@@ -1,7 +1,5 @@
 use Rattle.std.proofs.Common.{arith}
-use Rattle.std.proofs.lemmas.Grind.{common_steps}
-use Rattle.book.specs.Books.{heads_of, mem_of}
-use Rattle.book.proofs.Headers.{grown, grown-ranked}
+use Rattle.book.proofs.Headers.{grown-ranked}
 use Rattle.book.proofs.book.Book.extend.Goals as goal
 
 pub invariant_of-self : goal.invariant_of-self

@@ -1,7 +1,4 @@
 use Rattle.std.proofs.Common.{arith}
-use Rattle.std.proofs.lemmas.Grind.{common_steps}
-use Rattle.std.proofs.Common.{length}
-use Rattle.book.specs.Books.{heads_of, mem_of}
 use Rattle.book.proofs.Headers.{live-at}
 use Rattle.book.proofs.book.Book.live_at.Goals as goal
 

@@ -1,10 +1,7 @@
 -- What is read is the payload of the live message, out of the memory.
 use Rattle.std.proofs.lemmas.Grind.{common_steps}
-use Rattle.std.proofs.Common.{◌≡◌, ◌++◌, length, drop, refl, ap, ◌∙◌, arith, rules}
-use Rattle.std.proofs.lemmas.List.{length-take}
-use Rattle.book.specs.Heads.{message, payload_of}
-use Rattle.book.specs.Books.{mem_of}
-use Rattle.book.proofs.Pages.{payload-long, payload-small, found-there, found-index}
+use Rattle.std.proofs.Common.{◌≡◌, ◌++◌, ◌∙◌, arith}
+use Rattle.book.proofs.Pages.{payload-long, payload-small}
 use Rattle.book.proofs.book.Book.read.Goals as goal
 
 pub payload-payload-requires : goal.payload-payload-requires

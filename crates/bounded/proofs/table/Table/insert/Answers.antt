@@ -1,6 +1,5 @@
 use Rattle.std.proofs.lemmas.Grind.{common_steps}
 use Rattle.std.proofs.Common.{arith}
-use Rattle.std.proofs.lemmas.List.{length-take-le}
 use Rattle.bounded.proofs.Shifts.{opened}
 use Rattle.bounded.proofs.table.Table.insert.Goals as goal
 

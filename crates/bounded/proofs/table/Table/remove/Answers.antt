@@ -1,7 +1,6 @@
 use Rattle.std.proofs.lemmas.Grind.{common_steps}
 use Rattle.std.proofs.Common.{arith}
-use Rattle.std.proofs.lemmas.List.{length-take-le}
-use Rattle.bounded.proofs.Shifts.{closed, among}
+use Rattle.bounded.proofs.Shifts.{closed}
 use Rattle.bounded.proofs.table.Table.remove.Goals as goal
 
 pub returns : goal.returns

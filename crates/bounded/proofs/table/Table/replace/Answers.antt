@@ -1,4 +1,3 @@
-use Rattle.std.proofs.lemmas.Grind.{common_steps}
 use Rattle.std.proofs.Common.{arith}
 use lib.Seq.{take-set-lt}
 use Rattle.std.proofs.lemmas.List.{length-take-le}

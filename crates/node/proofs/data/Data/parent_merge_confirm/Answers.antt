@@ -1,9 +1,6 @@
 use Rattle.std.proofs.Common.{arith}
 use Rattle.std.proofs.lemmas.Grind.{common_steps}
-use Rattle.std.proofs.Common.{◌≡◌, Some, None, Err, ap, sym, ◌∙◌, rules}
-use Rattle.fault.specs.declared.node_fault.NodeFault.TheVariants.{NoPointer}
-use Rattle.node.specs.Meanings.{data_of}
-use Rattle.node.specs.Nodes.{ordered_rows}
+use Rattle.std.proofs.Common.{◌≡◌, Some, ◌∙◌, rules}
 use Rattle.node.proofs.Changing.{confirm_done, confirm_refused}
 use Rattle.node.proofs.data.Data.parent_merge_confirm.Goals as goal
 

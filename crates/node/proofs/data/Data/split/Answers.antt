@@ -2,7 +2,6 @@ use Rattle.std.proofs.Common.{◌≡◌, false, Ok, Err, sym, ap, ◌∙◌, rul
 use Rattle.std.specs.Option.{option_map}
 use Rattle.fault.specs.declared.node_fault.NodeFault.TheVariants.{Full}
 use Rattle.node.specs.Meanings.{data_of}
-use Rattle.node.specs.Nodes.{ordered_rows}
 use Rattle.node.proofs.Tables.{mapped_some}
 use Rattle.node.proofs.Changing.{split_there, split_ok, split_err}
 use Rattle.node.proofs.data.Data.split.Goals as goal

@@ -1,6 +1,5 @@
-use Rattle.std.proofs.Common.{◌≡◌, ◌+◌, ◌^◌, ◌<◌, ◌≤◌, false, refl, rules, Some}
-use Rattle.logs.specs.Meaning.{any_pending}
-use Rattle.book.specs.Books.{told, heads_of}
+use Rattle.std.proofs.Common.{◌≡◌, ◌+◌, ◌^◌, ◌<◌, ◌≤◌, refl, rules, Some}
+use Rattle.book.specs.Books.{heads_of}
 use Rattle.segmented.specs.Layout.{free_seg, Picked}
 use Rattle.segmented.proofs.Kept.{open_keeps}
 use Rattle.segmented.proofs.Putting.{prepared_here, prepared_open, ready-here, ready_open}

@@ -1,6 +1,5 @@
 use Rattle.std.proofs.Common.{arith}
-use Rattle.std.proofs.lemmas.Grind.{common_steps}
-use Rattle.std.proofs.Common.{◌≡◌, Some, None, rules}
+use Rattle.std.proofs.Common.{◌≡◌}
 use Rattle.segmented.proofs.Sparsest.{Sparse_paged}
 use Rattle.segmented.proofs.segmented.Segmented.sparsest.Goals as goal
 

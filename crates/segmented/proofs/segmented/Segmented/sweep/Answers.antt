@@ -1,5 +1,4 @@
 use Rattle.std.proofs.Common.{rules}
-use Rattle.std.proofs.Common.{refl}
 use Rattle.segmented.proofs.Kept.{lives_keeps}
 use Rattle.segmented.proofs.segmented.Segmented.sweep.Goals as goal
 

@@ -1,7 +1,5 @@
 use Rattle.std.proofs.Common.{rules}
-use Rattle.logs.specs.declared.messages.Event.TheVariants.{Complete}
-use Rattle.book.proofs.Logs.{settle-kin, on-settle}
-use Rattle.segmented.specs.Segments.{seg_fits, ready}
+use Rattle.book.proofs.Logs.{settle-kin}
 use Rattle.segmented.proofs.Kept.{kin_keeps}
 use Rattle.segmented.proofs.segmenting.SegmentedLog.complete.Goals as goal
 

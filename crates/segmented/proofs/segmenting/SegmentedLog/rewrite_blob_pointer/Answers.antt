@@ -1,7 +1,5 @@
 use Rattle.std.proofs.Common.{arith}
-use Rattle.std.proofs.lemmas.Grind.{common_steps}
-use Rattle.std.proofs.Common.{Err, ◌≡◌, Some, None, sym, refl, ◌∙◌, rules}
-use Rattle.logs.specs.declared.log_fault.LogFault.TheVariants.{NoMessage}
+use Rattle.std.proofs.Common.{◌≡◌, Some, sym, refl, ◌∙◌, rules}
 use Rattle.book.proofs.Pages.{found-index}
 use Rattle.segmented.specs.Layout.{SlotOf}
 use Rattle.segmented.proofs.Putting.{no_slot, blob-home, there-blob, moved}

@@ -1,6 +1,4 @@
 use Rattle.std.proofs.Common.{rules}
-use Rattle.book.proofs.Logs.{on-mark}
-use Rattle.segmented.specs.Segments.{seg_fits, ready}
 use Rattle.segmented.proofs.Kept.{kin_keeps}
 use Rattle.segmented.proofs.segmenting.SegmentedLog.sa_mark_replace.Goals as goal
 

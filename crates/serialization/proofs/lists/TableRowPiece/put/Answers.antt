@@ -1,16 +1,11 @@
 use Rattle.std.proofs.lemmas.Grind.{common_steps}
-use Rattle.std.proofs.Common.{◌≡◌, ◌+◌, List, ◌++◌, map, length, take, sym, ap, ◌∙◌, subst, arith, length-append}
-use Rattle.std.proofs.lemmas.List.{take_all, length-map}
-use native.Mathlib.Nat.{mul-le-mul_right}
-use Rattle.bounded.specs.Rows.{rows_of}
-use Rattle.node.specs.Nodes.{Row}
+use Rattle.std.proofs.Common.{◌≡◌, ◌+◌, ◌++◌, length, ap, ◌∙◌, arith}
 use Rattle.node.specs.Meanings.{row_of}
 use Rattle.node.proofs.Tables.{few-rows}
-use Rattle.serialization.specs.Numbers.{number}
-use Rattle.serialization.specs.Formats.{row_bytes, each, list_bytes}
-use Rattle.serialization.specs.Fitting.{FitsRow, Every}
-use Rattle.serialization.proofs.Writing.{puts_then, puts_as}
-use Rattle.serialization.proofs.Listed.{rooms, kept_none, kept_more}
+use Rattle.serialization.specs.Formats.{row_bytes}
+use Rattle.serialization.specs.Fitting.{FitsRow}
+use Rattle.serialization.proofs.Writing.{puts_then}
+use Rattle.serialization.proofs.Listed.{rooms, kept_more}
 use Rattle.serialization.proofs.lists.TableRowPiece.put.Goals as goal
 
 pub put-requires-in-loop-row : goal.put-requires-in-loop-row

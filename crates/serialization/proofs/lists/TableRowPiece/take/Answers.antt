@@ -1,14 +1,10 @@
-use Rattle.std.proofs.lemmas.Grind.{common_steps}
-use Rattle.std.proofs.Common.{List, [], ◌∷◌, map, length, sym, ap, ◌∙◌, subst, arith, length-append}
+use Rattle.std.proofs.Common.{[], ◌∷◌, map, length, ap, ◌∙◌, arith, length-append}
 use Rattle.std.proofs.lemmas.List.{map-append}
-use Rattle.std.proofs.lemmas.Result.{err_from_is_err_and}
 use Rattle.bounded.specs.Rows.{rows_of}
-use Rattle.node.specs.Nodes.{Row}
 use Rattle.node.specs.Meanings.{row_of}
-use Rattle.serialization.specs.Parsing.{Parsed, times}
+use Rattle.serialization.specs.Parsing.{times}
 use Rattle.serialization.specs.Formats.{parse_row}
-use Rattle.serialization.specs.Calls.{Stops}
-use Rattle.serialization.proofs.Reading.{stops_then, list_long, list_within, rows_start, rows_again, rows_stop, rows_end}
+use Rattle.serialization.proofs.Reading.{rows_again, rows_stop, rows_end}
 use Rattle.serialization.proofs.lists.TableRowPiece.take.Goals as goal
 
 pub returns-in_err-row : goal.returns-in_err-row

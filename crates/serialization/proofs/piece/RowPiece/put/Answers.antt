@@ -1,4 +1,3 @@
-use Rattle.std.proofs.lemmas.Grind.{common_steps}
 use Rattle.std.proofs.Common.{arith}
 use Rattle.serialization.proofs.Writing.{puts_then}
 use Rattle.serialization.proofs.piece.RowPiece.put.Goals as goal

@@ -1,8 +1,5 @@
 use Rattle.std.proofs.Common.{rules}
-use Rattle.std.proofs.Common.{false}
-use Rattle.logs.specs.declared.messages.Event.TheVariants.{Complete}
-use Rattle.book.proofs.Logs.{settle-kin, on-settle}
-use Rattle.tape.specs.Tapes.{tape_fits}
+use Rattle.book.proofs.Logs.{settle-kin}
 use Rattle.tape.proofs.Tapes.{kin_keeps}
 use Rattle.tape.proofs.taping.TapeLog.complete.Goals as goal
 

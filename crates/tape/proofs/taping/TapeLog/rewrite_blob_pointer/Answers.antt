@@ -1,7 +1,4 @@
 use Rattle.std.proofs.Common.{arith}
-use Rattle.std.proofs.lemmas.Grind.{common_steps}
-use Rattle.std.proofs.Common.{refl}
-use Rattle.book.specs.Books.{mem_of, heads_of}
 use Rattle.book.proofs.Logs.{no_blob}
 use Rattle.tape.proofs.taping.TapeLog.rewrite_blob_pointer.Goals as goal
 

@@ -1,7 +1,4 @@
 use Rattle.std.proofs.Common.{rules}
-use Rattle.std.proofs.Common.{false}
-use Rattle.book.proofs.Logs.{on-mark}
-use Rattle.tape.specs.Tapes.{tape_fits}
 use Rattle.tape.proofs.Tapes.{kin_keeps}
 use Rattle.tape.proofs.taping.TapeLog.sa_mark_replace.Goals as goal
 
