@@ -1,5 +1,5 @@
 -- What is made of a whole payload, and what the law of a format then says. Assumes nothing.
-use Rattle.std.proofs.Common.{◌≡◌, ℕ, ◌<◌, List, [], ◌∷◌, Ok, Result, sym, ap, ◌∙◌, subst, append-nil}
+use Rattle.std.proofs.Common.{◌≡◌, ℕ, List, [], ◌∷◌, Ok, Result, sym, ap, ◌∙◌, subst, append-nil}
 use Rattle.fault.specs.declared.bytes_fault.BytesFault.{BytesFault}
 use Rattle.serialization.specs.Parsing.{Parsed, read, unlawful, fault}
 use Rattle.serialization.specs.Fitting.{ReadsBack, ReadsOnly}

@@ -36,4 +36,3 @@ puts_as {xs} {ys} {u} {v} e p = subst (λ (bs : List ℕ). Puts bs u v) e p
 pub each_push : {V : Type 0} (f : V → List ℕ) (xs : List V) (x : V) → each f (xs ++ x ∷ []) ≡ each f xs ++ f x
 each_push f [] x = append-nil (f x)
 each_push f (y ∷ ys) x = ap (λ l. f y ++ l) (each_push f ys x) ∙ sym (append_assoc (f y) (each f ys) (f x))
-

@@ -1,5 +1,5 @@
 use Rattle.std.proofs.lemmas.Grind.{common_steps}
-use Rattle.std.proofs.Common.{◌≡◌, ◌<◌, ◌++◌, ◌∙◌, arith}
+use Rattle.std.proofs.Common.{arith}
 use Rattle.serialization.specs.Formats.{str_bytes}
 use Rattle.serialization.specs.Numbering.{number_small}
 use Rattle.serialization.proofs.Writing.{puts_then}

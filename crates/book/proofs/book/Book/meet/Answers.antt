@@ -1,6 +1,5 @@
 -- One message meets an event, and only its state may change.
 use Rattle.std.proofs.Common.{arith}
-use Rattle.std.proofs.Common.{◌∙◌}
 use Rattle.book.proofs.Headers.{ranked_restated, calm_restated}
 use Rattle.book.proofs.book.Book.meet.Goals as goal
 

@@ -1,6 +1,6 @@
 -- What is read is the payload of the live message, out of the memory.
 use Rattle.std.proofs.lemmas.Grind.{common_steps}
-use Rattle.std.proofs.Common.{◌≡◌, ◌++◌, ◌∙◌, arith}
+use Rattle.std.proofs.Common.{arith}
 use Rattle.book.proofs.Pages.{payload-long, payload-small}
 use Rattle.book.proofs.book.Book.read.Goals as goal
 

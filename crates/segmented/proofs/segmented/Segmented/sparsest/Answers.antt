@@ -1,5 +1,4 @@
 use Rattle.std.proofs.Common.{arith}
-use Rattle.std.proofs.Common.{◌≡◌}
 use Rattle.segmented.proofs.Sparsest.{Sparse_paged}
 use Rattle.segmented.proofs.segmented.Segmented.sparsest.Goals as goal
 

@@ -1,5 +1,5 @@
 use Rattle.std.proofs.lemmas.Grind.{common_steps}
-use Rattle.std.proofs.Common.{◌≡◌, ◌+◌, ◌++◌, length, ap, ◌∙◌, arith}
+use Rattle.std.proofs.Common.{◌+◌, length, ap, arith}
 use Rattle.node.specs.Meanings.{row_of}
 use Rattle.node.proofs.Tables.{few-rows}
 use Rattle.serialization.specs.Formats.{row_bytes}
