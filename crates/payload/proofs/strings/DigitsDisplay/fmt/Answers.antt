@@ -1,6 +1,5 @@
 use Rattle.std.proofs.Common.{arith}
 use Rattle.std.proofs.lemmas.Grind.{common_steps}
-use Rattle.std.proofs.Common.{◌≡◌, ℕ, ◌-◌, ◌^◌, [], ◌∙◌}
 use Rattle.std.proofs.lemmas.Fmt.{hex_byte}
 use Rattle.payload.proofs.strings.DigitsDisplay.fmt.Goals as goal
 
