@@ -1,15 +1,13 @@
 -- Headers by index. Assumes nothing.
 use Rattle.std.proofs.Common.{Bor, MatchOption, eqb, ◌≡◌, ℕ, zero, suc, ◌+◌, ◌-◌, ◌<◌, ◌≤◌, Bool, true, false, cond, not, ltb, leb, ◌⊎◌, List, [], ◌∷◌, ◌++◌, length, get_or, set, Some, None, refl, ap, ◌∙◌, inl, inr, arith, ltb-true, lt-ltb, eq-eqb, ne_eqb, le-leb, leb-true, Ok, Err, Result, Option, sym, subst, eqb-true, tests}
-use Rattle.std.proofs.lemmas.Bool.{true≢false, cases_lt, not-true, and_from, and_parts, or_parts, false_from_ne_true, cases_order, false≢true}
+use Rattle.std.proofs.lemmas.Bool.{cases_lt, not-true, and_from, and_parts, or_parts, false_from_ne_true, cases_order, false≢true}
 use Rattle.std.proofs.lemmas.List.{get_or_read, length-append, nil_from_length}
 use Rattle.fault.specs.declared.disk_pointer.DiskPtr.{DiskPtr}
-use Rattle.logs.specs.Meaning.{met, Message, is_pending, is_live, is_at, same_ptr, sweep, any_pending, pending_at, live_at, Sheds, none, kept, Below}
+use Rattle.logs.specs.Meaning.{Message, is_pending, is_live, is_at, same_ptr, sweep, any_pending, pending_at, live_at, Sheds, none, kept, Below}
 use Rattle.logs.specs.declared.messages.Status.{Status}
 use Rattle.logs.specs.contracts.messages.Status.{the_type}
 use denote.Enum.Bare.{sameb}
 use Rattle.logs.specs.declared.messages.Status.TheVariants.{Pending, Live, Dead, Cancelled}
-use Rattle.logs.specs.declared.messages.Event.{Event}
-use Rattle.logs.specs.declared.messages.Event.TheVariants.{Complete, Abort, Mark}
 use Rattle.book.specs.declared.head.Head.{Head}
 use Rattle.book.specs.declared.head.Place.{Place}
 use Rattle.book.specs.Heads.{calm, message, messages, with_status, bare, Ranked, ranked, lives, live_head, At, AtStatus}
@@ -308,15 +306,6 @@ quiet-lives mem (x ∷ hs) = at (quiet-lives mem hs) (live_head x) refl
 
 pub lives-calm : (hs gs : List Head) → gs ≡ lives hs → calm gs ≡ true
 lives-calm hs gs e = rw e (calm-quiet [] (lives hs) (quiet-lives [] hs))
-
--- no event makes a message pending
-pub met-calm : (s : Status) (e : Event) → is_pending s ≡ false → is_pending (met s e) ≡ false
-met-calm Pending e h = absurd (true≢false h)
-met-calm Live Complete h = refl
-met-calm Live Abort h = refl
-met-calm Live Mark h = refl
-met-calm Dead e h = refl
-met-calm Cancelled e h = refl
 
 stays-calm : (a b c : Bool) → (a ≡ false → b ≡ false) → (not a && c) ≡ true → (not b && c) ≡ true
 stays-calm true b c f h = absurd (false≢true h)

@@ -4,16 +4,15 @@ use Rattle.std.proofs.lemmas.List.{take-append-le, drop-append-le, drop_at, take
 use Rattle.logs.specs.declared.messages.Kind.{Kind}
 use Rattle.fault.specs.declared.disk_pointer.DiskPtr.{DiskPtr}
 use Rattle.fault.specs.declared.disk_pointer.DiskPtr.TheVariants.{Inline, Blob}
-use Rattle.logs.specs.declared.messages.CacheInfo.{CacheInfo}
 use Rattle.logs.specs.declared.reservation.Reservation.{Reservation}
 use Rattle.logs.specs.declared.reservation.Returned.{Returned}
 use Rattle.logs.specs.Meaning.{Message, is_live, live_at, any_pending}
-use Rattle.logs.specs.Clauses.{fresh, Reserved, OnSettle, Marked, blob_there}
+use Rattle.logs.specs.Clauses.{fresh, Reserved, blob_there}
 use Rattle.logs.specs.declared.messages.Event.{Event}
 use Rattle.book.specs.declared.head.Head.{Head}
 use Rattle.book.specs.declared.book.Book.{Book}
 use Rattle.book.specs.Heads.{message, messages, bare, Ranked, inlined}
-use Rattle.book.specs.Books.{heads_of, mem_of, told, book_means, Kin, BookSettle, Marks, new_head, Appended, Extended}
+use Rattle.book.specs.Books.{heads_of, mem_of, told, book_means, Kin, BookSettle, new_head, Appended, Extended}
 use Rattle.book.proofs.Headers.{span, is-ranked, messages_push, messages_below, sheds-none}
 use Rattle.book.proofs.Pages.{kin_self}
 use Rattle.std.proofs.lemmas.Bool.{false≢true, and_from, and_parts}
@@ -39,14 +38,6 @@ kin-inlined {b = b} {c = c} k t = sym (inlined-bare (heads_of c)) ∙ ap inlined
 pub settle-kin : (b c : Book) (r : Reservation) (s : Event) (x : Result Unit Returned) → BookSettle b c r s x → Kin b c
 settle-kin b c r s (Ok u) h = h.kin
 settle-kin b c r s (Err e) h = let P : Book → Type 0 = λ y. Kin b y in subst P (sym h.0) (kin_self b)
-
-module _ (F : Book → ℕ → Bool) (G : Book → Bool) where
-  pub on-settle : (b c : Book) (r : Reservation) (s : Event) (x : Result Unit Returned) → BookSettle b c r s x → OnSettle (book_means F G b) (book_means F G c) r s x
-  on-settle b c r s (Ok u) h = record { mine = h.mine; there = h.there; number = h.kin.number; stable = h.kin.stable; after = h.after }
-  on-settle b c r s (Err e) h = (ap (book_means F G) h.0, h.1, h.2)
-
-  pub on-mark : (b c : Book) (p : ℕ) (es : List CacheInfo) → Marks b c p es → Marked (book_means F G b) (book_means F G c) p es
-  on-mark b c p es h = record { number = h.kin.number; stable = h.kin.stable; after = h.after }
 
 -- no message is a blob
 live-inlined : (mem : List ℕ) (hs : List Head) (l x : ℕ) (i : ℤ) → inlined hs ≡ true → live_at (messages mem hs) l (Blob x i) ≡ None

@@ -73,11 +73,6 @@ neither : (b c : Bool) → false ≡ c → false ≡ cond b c false
 neither true c e = e
 neither false c e = refl
 
-not_less : (t : Ordering) → (t ≡ Less → ⊥) → is_lt t ≡ false
-not_less Less n = absurd (n refl)
-not_less Equal n = refl
-not_less Greater n = refl
-
 module _ {R : Type 0} where
   -- what is sought stands before each row
   abbrev pub Above : (R → Ordering) → List R → Type 0

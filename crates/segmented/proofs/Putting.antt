@@ -1,9 +1,8 @@
 -- What one more message does. Assumes nothing.
 use Rattle.std.proofs.Common.{◌≡◌, ℕ, zero, suc, ◌+◌, ◌*◌, ◌/◌, ◌^◌, ◌<◌, ◌≤◌, Bool, true, false, cond, eqb, ltb, leb, ◌⊎◌, List, [], ◌∷◌, ◌++◌, length, get_or, take, drop, is_some, Some, None, vec_items, vec_len, sym, refl, ap, ◌∙◌, subst, inl, inr, arith, ltb-true, lt-ltb, eq-eqb, eqb-true, le-leb, leb-true}
 use Rattle.std.specs.Prelude.{pos, negsuc}
-use Rattle.std.proofs.lemmas.Cmp.{int_eq_equiv}
 use Rattle.std.proofs.lemmas.Bool.Decides.{Decides-int_eq}
-use Rattle.std.proofs.lemmas.List.{length-take, length-drop}
+use Rattle.std.proofs.lemmas.List.{length-take}
 use Rattle.logs.specs.declared.messages.Kind.{Kind}
 use Rattle.fault.specs.declared.disk_pointer.DiskPtr.{DiskPtr}
 use Rattle.fault.specs.declared.disk_pointer.DiskPtr.TheVariants.{Inline, Blob}
@@ -112,12 +111,6 @@ new_inline segs slots a f l p k n i h =
     let x = new_head l p k (Inline (a * 4096 + f)) (span (a * 4096 + f + 32) n) in
     to_placed segs slots a (f + (32 + n)) x (rw q i) (omega (arith, limit-here a (f + (32 + n)) ((a * 4096 + f) / 4096) q)) (eq-eqb (a * 4096 + f + 32) (a * 4096 + f + 32) refl)
 
-pub new_blob : (segs slots a f l p : ℕ) (k : Kind) (n i : ℕ) → a < segs → f + 32 ≤ 4096 → n ≤ 1152 → i < slots → placed segs slots a (f + 32) (new_head l p k (Blob (a * 4096 + f) (pos i)) (span (segs * 4096 + i * 1152) n)) ≡ true
-new_blob segs slots a f l p k n i j h m v =
-    let q : (a * 4096 + f) / 4096 ≡ a = omega arith in
-    let x = new_head l p k (Blob (a * 4096 + f) (pos i)) (span (segs * 4096 + i * 1152) n) in
-    to_placed segs slots a (f + 32) x (rw q j) (omega (arith, limit-here a (f + 32) ((a * 4096 + f) / 4096) q)) (rw (lt-ltb i slots v, eq-eqb (segs * 4096 + i * 1152) (segs * 4096 + i * 1152) refl) (le-leb n 1152 m))
-
 -- headers never run out
 able-by : (t : Segmented) (need : ℕ) → any_pending (told t.book) ≡ false → t.book.next < 2 ^ 62 → 32 ≤ need → t.fill + need ≤ 4096 → Able t need
 able-by t need quiet low n l =
@@ -160,21 +153,6 @@ reserved s t u p k bytes need fit r quiet fits small a b =
       after = b.after;
       newer = rw l (messages_below 0 s.book.next (length (mem_of s.book)) (mem_of s.book) (heads_of s.book) (is-ranked 0 s.book.next (length (mem_of s.book)) (heads_of s.book) s.book.ranks));
     }
-
--- a pointer to what is there
-pub point_put : (s : Segmented) (d : Book) (p : ℕ) (k : Kind) (o : DiskPtr) (at n : ℕ) (r : Reservation) → Appended s.book d p k o (span at n) r → at + n ≤ length (mem_of s.book) → (u : Segmented) → u.book ≡ d → Put s u p k (take n (drop at (mem_of s.book))) r
-point_put s d p k o at n r a l u e =
-    let z : n ≡ length (take n (drop at (mem_of s.book))) = simp (length-take, length-drop) (omega arith) in
-    record {
-      number = ap (λ (b : Book). b.number) e ∙ a.number;
-      stable = ap (λ (b : Book). b.stable) e ∙ a.stable;
-      mine = a.mine;
-      lsn = a.lsn;
-      after = ap told e ∙ appended_told s.book d p k o at n r a ∙ ap (λ (m : Message). told s.book ++ (m ∷ [])) (new_message s.book d p k (take n (drop at (mem_of s.book))) o at n r a refl z);
-    }
-
-pub point_same : (y i : ℕ) (r : Reservation) → r.pointer ≡ Blob y (pos i) → (x : ℕ) → same_blob r.pointer (Blob x (pos i)) ≡ true
-point_same y i r e x = rw e (int_eq_equiv.refl (pos i))
 
 -- what fits
 pub fits_inline : (segs slots a f : ℕ) (b : Book) (n : ℕ) (v : Bool) → n ≤ 512 → ready segs a f b (32 + n) ≡ v → seg_fits segs slots a f b n ≡ v

@@ -30,17 +30,6 @@ Rival-more hs a n m r here k h g = at (cases_lt k n)
         let P : ℕ → Type 0 = λ x. (count_live x hs ≡ 0) ⊎ (m ≤ count_live x hs) in
         subst P e (here (λ z. g (sym e ∙ z)))
 
-Rival-low : (hs : List Head) (a n m c : ℕ) → c ≤ m → Rival hs a n m → Rival hs a n c
-Rival-low hs a n m c h r k l g = at (r k l g)
-  where
-    at : (count_live k hs ≡ 0) ⊎ (m ≤ count_live k hs) → (count_live k hs ≡ 0) ⊎ (c ≤ count_live k hs)
-    at (inl e) = inl e
-    at (inr e) = inr (omega arith)
-
-pub Sparse-low : (hs : List Head) (a n m : ℕ) (b : Option ℕ) → Sparse hs a n m b → (0 < m) × (m ≤ 4)
-Sparse-low hs a n m None s = (omega (arith, s.0), omega (arith, s.0))
-Sparse-low hs a n m (Some b) s = (s.3, omega (arith, s.4))
-
 -- one segment more that is not better
 pub Sparse_pass : (hs : List Head) (a n m : ℕ) (b : Option ℕ) → Sparse hs a n m b → ((n ≡ a → ⊥) → (count_live n hs ≡ 0) ⊎ (m ≤ count_live n hs)) → Sparse hs a (n + 1) m b
 Sparse_pass hs a n m None s h = (s.0, Rival-more hs a n 4 s.1 (λ g. at (h g)))
@@ -49,17 +38,6 @@ Sparse_pass hs a n m None s h = (s.0, Rival-more hs a n 4 s.1 (λ g. at (h g)))
     at (inl e) = inl e
     at (inr e) = inr (omega (arith, s.0))
 Sparse_pass hs a n m (Some b) s h = (omega (arith, s.0), s.1, s.2, s.3, s.4, Rival-more hs a n m s.5 h, s.6)
-
-Rival_of : (hs : List Head) (a n m : ℕ) (b : Option ℕ) → Sparse hs a n m b → Rival hs a n m
-Rival_of hs a n m None s = Rival-low hs a n 4 m (omega (arith, s.0)) s.1
-Rival_of hs a n m (Some b) s = s.5
-
--- one that is
-pub Sparse_best : (hs : List Head) (a n m c : ℕ) (b : Option ℕ) → Sparse hs a n m b → (n ≡ a → ⊥) → count_live n hs ≡ c → 0 < c → c < m → Sparse hs a (n + 1) c (Some n)
-Sparse_best hs a n m c b s g e p l =
-    let w = Sparse-low hs a n m b s in
-    let r = Rival_of hs a n m b s in
-    (omega arith, g, e, p, omega (arith, w.1), Rival-more hs a n c (Rival-low hs a n m c (omega arith) r) (λ _. inr (omega arith)), Rival-low hs a n m (c + 1) (omega arith) r)
 
 -- a segment with a live message has a lowest page
 none_counted : (q : ℕ) (hs : List Head) → list_any (live_in q) hs ≡ false → count_live q hs ≡ 0

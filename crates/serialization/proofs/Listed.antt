@@ -6,7 +6,7 @@ use Rattle.serialization.specs.Formats.{each}
 use Rattle.serialization.specs.Fitting.{Every}
 use Rattle.serialization.specs.Writing.{Puts}
 use Rattle.serialization.specs.declared.writer.Writer.{Writer}
-use Rattle.serialization.proofs.Writing.{puts_then, puts_none, puts_as, each_push}
+use Rattle.serialization.proofs.Writing.{puts_then, puts_as, each_push}
 
 one-more : (i m : ℕ) → (i + 1) * m ≡ i * m + m
 one-more i m = ap (λ k. k * m) (add-one i) ∙ suc-mul i m
@@ -32,9 +32,6 @@ module _ {R V : Type 0} (f : R → V) (bytes : V → List ℕ) (Fits : V → Typ
     pub puts : Puts (each bytes (so-far i)) before after
     pub few : length (each bytes (so-far i)) ≤ i * most
     pub fit : Every Fits (so-far i)
-
-  pub kept_none : (w : Writer) → Kept 0 w w
-  kept_none w = record { puts = puts_none w; few = omega arith; fit = tt }
 
   pub kept_more : (i : ℕ) (u v w : Writer) (x : R) → i < length rows → x ≡ get_or rows i x → Kept i u v → u.at + i * most ≤ length u.out.now → Puts (bytes (f x)) v w → length (bytes (f x)) ≤ most → Fits (f x) → Kept (i + 1) u w
   kept_more i u v w x h is k room p few fit =

@@ -1,18 +1,16 @@
 -- What a reader makes of bytes, step by step. Assumes nothing.
 use Rattle.std.proofs.Common.{◌≡◌, ℕ, zero, suc, ◌+◌, ◌-◌, ◌<◌, ◌≤◌, cond, ltb, min, Ok, Err, Result, List, [], ◌∷◌, ◌++◌, length, take, drop, sym, refl, ap, ◌∙◌, subst, append_assoc, append-nil, arith}
-use native.Mathlib.Nat.{sub-zero}
 use Rattle.std.proofs.lemmas.Bool.{lt-ltb, le-ltb}
 use Rattle.fault.specs.declared.bytes_fault.BytesFault.{BytesFault}
 use Rattle.fault.specs.declared.bytes_fault.BytesFault.TheVariants.{TooLong, Unlawful, EndsEarly, BadNumber, OutOfRange, LeftOver, ScratchTooSmall}
-use Rattle.serialization.specs.Parsing.{Parsed, read, unlawful, fault, and_then, times, parse_byte}
-use Rattle.serialization.specs.Numbers.{join_groups, parse_groups, parse_number}
-use Rattle.serialization.specs.Formats.{parse_string, parse_list}
-use Rattle.serialization.specs.Calls.{Stops, Refuses, Takes}
+use Rattle.serialization.specs.Parsing.{Parsed, read, unlawful, fault, and_then, times}
+use Rattle.serialization.specs.Numbers.{parse_number}
+use Rattle.serialization.specs.Formats.{parse_string}
+use Rattle.serialization.specs.Calls.{Stops, Takes}
 use Rattle.std.specs.Result.{MatchResult}
 use Rattle.std.proofs.lemmas.List.{length-take-le}
 use Rattle.bounded.specs.Bytes.{bytes_of}
 use Rattle.bounded.specs.declared.ivec.IVec.{IVec}
-use Rattle.serialization.specs.Numbering.{parse-more}
 
 -- where the first part stops, the whole does
 pub stops_then : {A B : Type 0} (p : Parsed A) (f : A → List ℕ → Parsed B) (e : BytesFault) → Stops p e → Stops (and_then p f) e
@@ -23,41 +21,6 @@ stops_then p f TooLong h = absurd h
 stops_then p f Unlawful h = absurd h
 stops_then p f LeftOver h = absurd h
 stops_then p f ScratchTooSmall h = absurd h
-
--- a reader that stops has passed nothing
-pub Stops_refuses : {M : Type 0} (p : Parsed M) (before : List ℕ) (e : BytesFault) → Stops p e → Refuses p before before e
-Stops_refuses p before EndsEarly h = (h, refl)
-Stops_refuses p before BadNumber h = (h, refl)
-Stops_refuses p before OutOfRange h = (h, refl)
-Stops_refuses p before TooLong h = absurd h
-Stops_refuses p before Unlawful h = absurd h
-Stops_refuses p before LeftOver h = absurd h
-Stops_refuses p before ScratchTooSmall h = absurd h
-
--- ---- the groups of a number
-
-parse-end : (m : ℕ) → parse_groups m [] ≡ fault EndsEarly
-parse-end zero = refl
-parse-end (suc m) = refl
-
--- a number begins with a byte
-pub parse-first : (m : ℕ) (bs : List ℕ) → parse_groups m bs ≡ and_then (parse_byte bs) (λ b rest. parse_groups m (b ∷ rest))
-parse-first m [] = parse-end m
-parse-first m (b ∷ rest) = refl
-
-pub parse-last : (b : ℕ) (rest : List ℕ) → b < 2 → parse_groups 0 (b ∷ rest) ≡ read b rest
-parse-last b rest h = ap (λ t. cond t (read b rest) (fault BadNumber)) (lt-ltb b 2 h)
-
-pub parse_past : (b : ℕ) (rest : List ℕ) → 2 ≤ b → parse_groups 0 (b ∷ rest) ≡ fault BadNumber
-parse_past b rest h = ap (λ t. cond t (read b rest) (fault BadNumber)) (le-ltb b 2 h)
-
-pub parse-one : (m b : ℕ) (rest : List ℕ) → 0 < m → b < 128 → parse_groups m (b ∷ rest) ≡ read b rest
-parse-one zero b rest l h = absurd (omega arith)
-parse-one (suc m) b rest l h = ap (λ t. cond t (read b rest) (cond (ltb b 256) (join_groups (b - 128) (parse_groups m rest)) (fault BadNumber))) (lt-ltb b 128 h)
-
-pub parse-next : (m b : ℕ) (rest : List ℕ) → 0 < m → 128 ≤ b → b < 256 → parse_groups m (b ∷ rest) ≡ join_groups (b - 128) (parse_groups (m - 1) rest)
-parse-next zero b rest l h k = absurd (omega arith)
-parse-next (suc m) b rest l h k = let e : suc m - 1 ≡ m = omega arith in parse-more m b rest h k ∙ ap (λ n. join_groups (b - 128) (parse_groups n rest)) (sym e)
 
 -- ---- strings
 
@@ -94,12 +57,6 @@ string_stops most bs e h = stops_then (parse_number bs) _ e h
 -- ---- lists: the count, and then one row after the other, of which those so far are kept
 
 module _ {M : Type 0} (p : List ℕ → Parsed M) where
-  pub list_long : (most n : ℕ) (bs rest : List ℕ) → parse_number bs ≡ read n rest → most < n → parse_list most p bs ≡ fault OutOfRange
-  list_long most n bs rest e h = ap (λ q. and_then q (λ n rest. cond (ltb most n) (fault OutOfRange) (times p n rest))) e ∙ ap (λ t. cond t (fault OutOfRange) (times p n rest)) (lt-ltb most n h)
-
-  pub list_within : (most n : ℕ) (bs rest : List ℕ) → parse_number bs ≡ read n rest → n ≤ most → parse_list most p bs ≡ times p n rest
-  list_within most n bs rest e h = ap (λ q. and_then q (λ n rest. cond (ltb most n) (fault OutOfRange) (times p n rest))) e ∙ ap (λ t. cond t (fault OutOfRange) (times p n rest)) (le-ltb most n h)
-
   -- what is still to be read, behind the rows so far
   abbrev pub behind : List M → ℕ → List ℕ → Parsed (List M)
   behind rows n bs = and_then (times p n bs) (λ xs after. read (rows ++ xs) after)
@@ -117,9 +74,6 @@ module _ {M : Type 0} (p : List ℕ → Parsed M) where
   one_more (read xs after) rows m = ap (λ l. read l after) (sym (append_assoc rows (m ∷ []) xs))
   one_more (unlawful rest) rows m = refl
   one_more (fault e) rows m = refl
-
-  pub rows_start : (rows : List M) (n : ℕ) (bs : List ℕ) → rows ≡ [] → behind rows (n - 0) bs ≡ times p n bs
-  rows_start rows n bs e = (λ i. behind (e i) (sub-zero n i) bs) ∙ all_read (times p n bs)
 
   module _ (n i : ℕ) (rows : List M) (bs : List ℕ) (all : Parsed (List M)) (so : behind rows (n - i) bs ≡ all) where
     next : 0 < n - i → and_then (and_then (p bs) (λ x rest. and_then (times p (n - i - 1) rest) (λ xs after. read (x ∷ xs) after))) (λ xs after. read (rows ++ xs) after) ≡ all

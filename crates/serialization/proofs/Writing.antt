@@ -1,8 +1,7 @@
 -- One write after another. Assumes nothing.
-use Rattle.std.proofs.Common.{◌≡◌, ℕ, ◌+◌, ◌≤◌, List, [], ◌∷◌, ◌++◌, length, take, drop, Ok, sym, refl, ap, ◌∙◌, subst, append_assoc, append-nil, add-zero, add_assoc, zero-add, arith, length-append}
-use Rattle.std.proofs.lemmas.List.{take_at, drop_at, drop-drop, length-take-le, take-append-drop}
+use Rattle.std.proofs.Common.{◌≡◌, ℕ, ◌+◌, ◌≤◌, List, [], ◌∷◌, ◌++◌, length, take, drop, sym, ap, ◌∙◌, subst, append_assoc, append-nil, add_assoc, arith, length-append}
+use Rattle.std.proofs.lemmas.List.{take_at, drop_at, drop-drop, length-take-le}
 use Rattle.serialization.specs.Formats.{each}
-use Rattle.serialization.specs.Calls.{Writes}
 use Rattle.serialization.specs.Writing.{written, Puts}
 use Rattle.serialization.specs.declared.writer.Writer.{Writer}
 
@@ -29,10 +28,6 @@ puts_then {xs} {ys} {u} {v} {w} p h q =
       bytes = q.bytes ∙ (λ i. written (p.ends i) ys (p.bytes i)) ∙ written_then u.at xs ys u.out.now h;
     }
 
--- nothing is written as no bytes
-pub puts_none : (w : Writer) → Puts [] w w
-puts_none w = record { lent = refl; ends = sym (add-zero w.at); room = refl; bytes = sym (take-append-drop w.at w.out.now) ∙ ap (λ n. take w.at w.out.now ++ drop n w.out.now) (sym (add-zero w.at)) }
-
 -- the same bytes under another name
 pub puts_as : {xs ys : List ℕ} {u v : Writer} → xs ≡ ys → Puts xs u v → Puts ys u v
 puts_as {xs} {ys} {u} {v} e p = subst (λ (bs : List ℕ). Puts bs u v) e p
@@ -41,9 +36,3 @@ puts_as {xs} {ys} {u} {v} e p = subst (λ (bs : List ℕ). Puts bs u v) e p
 pub each_push : {V : Type 0} (f : V → List ℕ) (xs : List V) (x : V) → each f (xs ++ x ∷ []) ≡ each f xs ++ f x
 each_push f [] x = append-nil (f x)
 each_push f (y ∷ ys) x = ap (λ l. f y ++ l) (each_push f ys x) ∙ sym (append_assoc (f y) (each f ys) (f x))
-
--- a payload at the front of a scratch
-pub puts_front : {bs : List ℕ} {u v : Writer} → Puts bs u v → u.at ≡ 0 → length bs ≤ 1152 → 1152 ≤ length u.out.now → Writes bs u.out.now v.out.now (Ok v.at)
-puts_front {bs} {u} {v} p z few room =
-    let e : v.at ≡ length bs = p.ends ∙ ap (λ n. n + length bs) z ∙ zero-add (length bs) in
-    (e, omega arith, room, p.bytes ∙ ap (λ n. written n bs u.out.now) z ∙ ap (λ k. bs ++ drop k u.out.now) (zero-add (length bs) ∙ sym e))

@@ -1,13 +1,12 @@
 -- The row at the place that the seek found, or none, is what lookup finds.
+use Rattle.std.proofs.Common.{rules}
 use Rattle.std.proofs.Common.{sym}
 use Rattle.keyed.specs.Rows.{probe}
 use Rattle.keyed.proofs.Places.{found, missing, lookup-found, lookup-missing}
 use Rattle.keyed.proofs.seek.find_row.Goals as goal
 
 pub returns : goal.returns
-returns g c = λ up.
-    let p = probe g.R.Key.Ord.cmp g.R.Keyed.key_of c.args.key.now in
-    lookup-found p c.index-rows-i.result c.index-rows-i.is (found p c.args.rows.now c.in-Ok.i (c.in-Ok.ensures.found up))
+returns g c = λ up. search (rules, found, lookup-found)
 
 pub returns-in_default : goal.returns-in_default
 returns-in_default g c = λ up.

@@ -1,7 +1,5 @@
-use Rattle.std.proofs.Common.{◌+◌, true, false, sym, ap, ◌∙◌, inl, inr, arith, rules}
-use Rattle.std.proofs.lemmas.List.{take_all}
-use Rattle.segmented.specs.Layout.{count_live}
-use Rattle.segmented.proofs.Sparsest.{count_more, count_take, Sparse_pass, Sparse_best}
+use Rattle.std.proofs.Common.{◌+◌, true, false, sym, ◌∙◌, inr, arith, rules}
+use Rattle.segmented.proofs.Sparsest.{count_more, count_take, Sparse_pass}
 use Rattle.segmented.proofs.scans.sparse_segment.Goals as goal
 
 pub loop-h-preserved-then-not-live_in : goal.loop-h-preserved-then-not-live_in
@@ -10,22 +8,10 @@ loop-h-preserved-then-not-live_in c =
     (c.loop-h.invariant.0, omega (arith, c.loop-h.invariant.1, e), c.loop-h.invariant.2)
 
 pub loop-h-preserved : goal.loop-h-preserved
-loop-h-preserved c =
-    let e = count_more c.segments.q c.args.heads.now c.loop-h.h-index _ true c.loop-h-test.true (sym c.live_in.ensures ∙ c.if-not-live_in.false) in
-    (c.if-count-fewest.false, omega (arith, c.loop-h.invariant.1, e), c.loop-h.invariant.2)
+loop-h-preserved c = search (rules, count_more)
 
 pub segments-preserved-then-count-fewest : goal.segments-preserved-then-count-fewest
 segments-preserved-then-count-fewest c =
     let e = count_more c.segments.q c.args.heads.now c.loop-h.h-index _ true c.loop-h-test.true (sym c.live_in.ensures ∙ c.if-not-live_in.false) in
     let w = count_take c.segments.q (c.loop-h.h-index + 1) c.args.heads.now in
     Sparse_pass c.args.heads.now c.args.active c.segments.q c.segments.fewest c.segments.best c.segments.invariant (λ _. inr (omega (arith, c.loop-h.invariant.1, e, w, c.if-count-fewest.true)))
-
-pub segments-preserved-then-count-eq0 : goal.segments-preserved-then-count-eq0
-segments-preserved-then-count-eq0 c =
-    let e = ap (count_live c.segments.q) (take_all c.loop-h.h-index c.args.heads.now c.loop-h-test.false) in
-    Sparse_pass c.args.heads.now c.args.active c.segments.q c.segments.fewest c.segments.best c.segments.invariant (λ _. inl (omega (arith, c.loop-h.invariant.1, e, c.if-count-eq0.true)))
-
-pub segments-preserved : goal.segments-preserved
-segments-preserved c =
-    let e = ap (count_live c.segments.q) (take_all c.loop-h.h-index c.args.heads.now c.loop-h-test.false) in
-    Sparse_best c.args.heads.now c.args.active c.segments.q c.segments.fewest c.loop-h.count c.segments.best c.segments.invariant c.if-q-active.false (omega (arith, c.loop-h.invariant.1, e)) (search rules) c.loop-h.invariant.0

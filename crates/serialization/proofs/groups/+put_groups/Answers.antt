@@ -1,19 +1,7 @@
 use Rattle.std.proofs.Common.{length, sym, ap, arith}
-use Rattle.serialization.specs.Numbering.{groups-last, tail-limit}
+use Rattle.serialization.specs.Numbering.{tail-limit}
 use Rattle.serialization.proofs.Writing.{puts_then, puts_as}
 use Rattle.serialization.proofs.groups.+put_groups.Goals as goal
-
-pub push-requires : goal.push-requires
-push-requires t c = let l = ap length (groups-last c.args.more c.args.n c.if-n-lt128.true) in omega arith
-
-pub returns-then-n-lt128 : goal.returns-then-n-lt128
-returns-then-n-lt128 t c = puts_as (sym (groups-last c.args.more c.args.n c.if-n-lt128.true)) c.push.ensures.puts
-
-pub push-requires-else-n-lt128 : goal.push-requires-else-n-lt128
-push-requires-else-n-lt128 t c =
-    let k = tail-limit c.args.more c.args.n c.if-n-lt128.false c.requires.0 in
-    let l = ap length k.2 in
-    omega arith
 
 pub returns-else-n-lt128 : goal.returns-else-n-lt128
 returns-else-n-lt128 t c =

@@ -1,12 +1,8 @@
 use Rattle.serialization.proofs.Whole.{decode_back, decode_only}
 use Rattle.serialization.proofs.serialize.decode.Goals as goal
 
-pub returns : goal.returns
-returns g c =
-    let s = g.S.Serialize in
-    let bs = c.args.payload.now in
-    record {
-      reads = c.read_whole.ensures;
-      back = decode_back s.value s.bytes s.parse bs c.read_whole.result c.read_whole.ensures s.Fits g.met.S.Serialize.back;
-      only = decode_only s.value s.bytes s.parse bs c.read_whole.result c.read_whole.ensures g.met.S.Serialize.only;
-    }
+pub returns-clause-back : goal.returns-clause-back
+returns-clause-back g c = let s = g.S.Serialize in decode_back s.value s.bytes s.parse c.args.payload.now c.read_whole.result c.read_whole.ensures s.Fits g.met.S.Serialize.back
+
+pub returns-clause-only : goal.returns-clause-only
+returns-clause-only g c = let s = g.S.Serialize in decode_only s.value s.bytes s.parse c.args.payload.now c.read_whole.result c.read_whole.ensures g.met.S.Serialize.only

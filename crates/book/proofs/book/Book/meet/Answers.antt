@@ -1,34 +1,7 @@
 -- One message meets an event, and only its state may change.
-use Rattle.std.proofs.Common.{length, get_or, set, refl, ap, ◌∙◌, rules}
-use Rattle.std.proofs.lemmas.List.{get_or_read}
-use Rattle.logs.specs.Meaning.{met}
-use Rattle.logs.specs.declared.messages.Status.{Status}
-use Rattle.book.specs.declared.head.Head.{Head}
-use Rattle.book.specs.Heads.{with_status}
-use Rattle.book.specs.Books.{heads_of, mem_of}
-use Rattle.book.proofs.Headers.{ranked_restated, calm_restated, met-calm}
+use Rattle.std.proofs.Common.{arith}
+use Rattle.book.proofs.Headers.{ranked_restated, calm_restated}
 use Rattle.book.proofs.book.Book.meet.Goals as goal
 
 pub invariant_of-self : goal.invariant_of-self
-invariant_of-self c =
-    let b = c.args.self.now in
-    let x = c.index_mut.result.now in record {
-      first = b.first;
-      ranks = ranked_restated b.next (length (mem_of b)) (heads_of b) c.args.i x c.meet.new.self c.index_mut.ensures.value b.ranks;
-      last = calm_restated (heads_of b) c.args.i x c.meet.new.self c.index_mut.ensures.value (λ h. rw c.meet.ensures (met-calm x.status c.args.event h)) b.last;
-    }
-
-pub returns : goal.returns
-returns c = λ d.
-    let hs = heads_of c.args.self.now in
-    let i = c.args.i in
-    let x = c.index_mut.result.now in
-    let is = λ (e : Head). get_or_read hs i x (search rules) c.index_mut.ensures.value e in
-    record {
-      number = refl;
-      stable = refl;
-      next = refl;
-      mem = refl;
-      cap = refl;
-      items = λ e. ap (λ (s : Status). set hs i (with_status s x)) c.meet.ensures ∙ ap (λ (y : Head). set hs i (with_status (met y.status c.args.event) x)) (is d) ∙ ap (λ (y : Head). set hs i (with_status (met (get_or hs i d).status c.args.event) y)) (is e);
-    }
+invariant_of-self c = grind (arith, ranked_restated, calm_restated)

@@ -1,7 +1,6 @@
-use Rattle.std.proofs.Common.{◌≡◌, Some, None, Err, ap, sym, ◌∙◌, rules}
-use Rattle.fault.specs.declared.node_fault.NodeFault.TheVariants.{NoPointer}
-use Rattle.node.specs.Meanings.{data_of}
-use Rattle.node.specs.Nodes.{ordered_rows}
+use Rattle.std.proofs.Common.{arith}
+use Rattle.std.proofs.lemmas.Grind.{common_steps}
+use Rattle.std.proofs.Common.{◌≡◌, Some, rules}
 use Rattle.node.proofs.Changing.{confirm_done, confirm_refused}
 use Rattle.node.proofs.data.Data.parent_merge_confirm.Goals as goal
 
@@ -11,9 +10,5 @@ returns c =
     let h = confirm_done c.args.self.now c.in-Index.rows c.in-Index.is c.args.merged_child_pid c.as_slice.result.now c.as_slice.ensures c.remove.new.self c.in_ok-i.i c.remove.result (rw p at c.place_of.ensures) c.remove.ensures in
     record { does = h.0; ordered = h.1 }
 
-pub returns-in_err-i : goal.returns-in_err-i
-returns-in_err-i c =
-    let r : c.from_residual.result ≡ Err NoPointer = search rules in
-    let p : c.place_of.result ≡ None = search rules in
-    let h = confirm_refused c.args.self.now c.in-Index.rows c.in-Index.is c.args.merged_child_pid c.as_slice.result.now c.as_slice.ensures (rw p at c.place_of.ensures) in
-    record { does = rw r (h, ap data_of (sym c.in-Index.is)); ordered = λ up. ap (λ d. ordered_rows (data_of d)) (sym c.in-Index.is) ∙ up }
+pub returns-in_err-i-clause-does : goal.returns-in_err-i-clause-does
+returns-in_err-i-clause-does c = grind (arith, common_steps, confirm_refused)

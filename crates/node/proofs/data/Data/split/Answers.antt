@@ -2,16 +2,14 @@ use Rattle.std.proofs.Common.{◌≡◌, false, Ok, Err, sym, ap, ◌∙◌, rul
 use Rattle.std.specs.Option.{option_map}
 use Rattle.fault.specs.declared.node_fault.NodeFault.TheVariants.{Full}
 use Rattle.node.specs.Meanings.{data_of}
-use Rattle.node.specs.Nodes.{ordered_rows}
 use Rattle.node.proofs.Tables.{mapped_some}
 use Rattle.node.proofs.Changing.{split_there, split_ok, split_err}
 use Rattle.node.proofs.data.Data.split.Goals as goal
 
-pub returns-then-is_some : goal.returns-then-is_some
-returns-then-is_some c =
+pub returns-then-is_some-clause-does : goal.returns-then-is_some-clause-does
+returns-then-is_some-clause-does c =
     let there = mapped_some (λ x. x.now) c.find_row.result ∙ sym c.is_some.ensures ∙ c.if-is_some.true in
-    let h = split_there c.args.self.now c.in-Index.rows c.in-Index.is c.requires c.args.key c.args.to c.as_slice.result.now c.as_slice.ensures (option_map (λ x. x.now) c.find_row.result) there c.find_row.ensures in
-    record { does = h ∙ ap (λ d. Ok (false, data_of d)) c.in-Index.is; ordered = ap (λ d. ordered_rows (data_of d)) (sym c.in-Index.is) ∙ c.requires }
+    split_there c.args.self.now c.in-Index.rows c.in-Index.is c.requires c.args.key c.args.to c.as_slice.result.now c.as_slice.ensures (option_map (λ x. x.now) c.find_row.result) there c.find_row.ensures ∙ ap (λ d. Ok (false, data_of d)) c.in-Index.is
 
 pub returns : goal.returns
 returns c =

@@ -1,6 +1,5 @@
-use Rattle.std.proofs.Common.{◌≡◌, ◌+◌, ◌^◌, ◌<◌, ◌≤◌, false, refl, rules, Some}
-use Rattle.logs.specs.Meaning.{any_pending}
-use Rattle.book.specs.Books.{told, heads_of}
+use Rattle.std.proofs.Common.{◌≡◌, ◌+◌, ◌^◌, ◌<◌, ◌≤◌, refl, rules, Some}
+use Rattle.book.specs.Books.{heads_of}
 use Rattle.segmented.specs.Layout.{free_seg, Picked}
 use Rattle.segmented.proofs.Kept.{open_keeps}
 use Rattle.segmented.proofs.Putting.{prepared_here, prepared_open, ready-here, ready_open}
@@ -14,13 +13,7 @@ invariant_of-self c =
     record { kept = open_keeps s c.compact.new.self c.compact.ensures c.in_ok-q.q a.0 a.1 }
 
 pub returns-then-self-need-le-SEGMENT_LEN : goal.returns-then-self-need-le-SEGMENT_LEN
-returns-then-self-need-le-SEGMENT_LEN c =
-    let s = c.args.self.now in
-    let quiet : any_pending (told s.book) ≡ false = search rules in
-    let low : s.book.next < 2 ^ 62 = search rules in
-    let n : 32 ≤ c.args.need = search rules in
-    let l : s.fill + c.args.need ≤ 4096 = search rules in
-    (prepared_here s c.args.need quiet low n l, ready-here s.segs s.active s.fill s.book c.args.need low l)
+returns-then-self-need-le-SEGMENT_LEN c = search (rules, prepared_here, ready-here)
 
 pub returns : goal.returns
 returns c =

@@ -5,14 +5,15 @@ use Rattle.segmented.specs.Segments.{seg_fits}
 use Rattle.segmented.proofs.Putting.{reserved, swept, fits-blob, slot_vacant}
 use Rattle.segmented.proofs.segmented.Segmented.reserve_blob.Goals as goal
 
-pub put_blob-requires : goal.put_blob-requires
-put_blob-requires c =
+pub put_blob-requires-clause-able : goal.put_blob-requires-clause-able
+put_blob-requires-clause-able c = (swept c.args.self.now c.make_ready.new.self c.sweep.new.self 32 (omega arith) c.in_ok-make_ready.ensures.0 c.sweep.ensures).able
+
+pub put_blob-requires-clause-vacant : goal.put_blob-requires-clause-vacant
+put_blob-requires-clause-vacant c =
     let s = c.args.self.now in
-    let a = c.in_ok-make_ready.ensures.0 in
     let found : c.free_slot.result ≡ Some c.in_ok-i.i = search rules in
     let b : Picked (free_slot (heads_of s.book)) s.slots (Some c.in_ok-i.i) = rw found at c.free_slot.ensures in
-    let p = swept s c.make_ready.new.self c.sweep.new.self 32 (omega arith) a c.sweep.ensures in
-    record { able = p.able; short = search rules; slot = rw p.slots b.0; vacant = slot_vacant s c.make_ready.new.self c.sweep.new.self 32 c.in_ok-i.i a c.sweep.ensures b.1 }
+    slot_vacant s c.make_ready.new.self c.sweep.new.self 32 c.in_ok-i.i c.in_ok-make_ready.ensures.0 c.sweep.ensures b.1
 
 pub returns : goal.returns
 returns c =

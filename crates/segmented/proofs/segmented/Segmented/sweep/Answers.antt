@@ -1,10 +1,6 @@
-use Rattle.std.proofs.Common.{refl}
+use Rattle.std.proofs.Common.{rules}
 use Rattle.segmented.proofs.Kept.{lives_keeps}
 use Rattle.segmented.proofs.segmented.Segmented.sweep.Goals as goal
 
 pub invariant_of-self : goal.invariant_of-self
-invariant_of-self c =
-    record { kept = lives_keeps c.args.self.now c.compact.new.self c.compact.ensures }
-
-pub returns : goal.returns
-returns c = record { book = c.compact.ensures; segs = refl; slots = refl; fill = refl }
+invariant_of-self c = search (rules, lives_keeps)

@@ -1,15 +1,7 @@
-use Rattle.logs.specs.declared.messages.Event.TheVariants.{Complete}
-use Rattle.book.proofs.Logs.{settle-kin, on-settle}
-use Rattle.segmented.specs.Segments.{seg_fits, ready}
+use Rattle.std.proofs.Common.{rules}
+use Rattle.book.proofs.Logs.{settle-kin}
 use Rattle.segmented.proofs.Kept.{kin_keeps}
 use Rattle.segmented.proofs.segmenting.SegmentedLog.complete.Goals as goal
 
 pub invariant_of-self : goal.invariant_of-self
-invariant_of-self c =
-    let s = c.args.self.now in
-    record { kept = kin_keeps s c.settle.new.self (settle-kin s.book c.settle.new.self c.args.reservation Complete c.settle.result c.settle.ensures) }
-
-pub returns : goal.returns
-returns c =
-    let s = c.args.self.now in
-    on-settle (seg_fits s.segs s.slots s.active s.fill) (λ b. ready s.segs s.active s.fill b 32) s.book c.settle.new.self c.args.reservation Complete c.settle.result c.settle.ensures
+invariant_of-self c = search (rules, settle-kin, kin_keeps)

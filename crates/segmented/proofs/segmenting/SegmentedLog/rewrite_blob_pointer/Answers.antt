@@ -1,17 +1,12 @@
-use Rattle.std.proofs.Common.{Err, ◌≡◌, Some, None, sym, refl, ◌∙◌, rules}
-use Rattle.logs.specs.declared.log_fault.LogFault.TheVariants.{NoMessage}
+use Rattle.std.proofs.Common.{arith}
+use Rattle.std.proofs.Common.{◌≡◌, Some, sym, refl, ◌∙◌, rules}
 use Rattle.book.proofs.Pages.{found-index}
 use Rattle.segmented.specs.Layout.{SlotOf}
 use Rattle.segmented.proofs.Putting.{no_slot, blob-home, there-blob, moved}
 use Rattle.segmented.proofs.segmenting.SegmentedLog.rewrite_blob_pointer.Goals as goal
 
 pub returns-in_err-i : goal.returns-in_err-i
-returns-in_err-i c =
-    let s = c.args.self.now in
-    let none : c.slot_of.result ≡ None = search rules in
-    let n : SlotOf c.args.pointer None = rw none at c.slot_of.ensures in
-    let refused : c.from_residual.result ≡ Err (NoMessage c.args.pid c.args.pointer) = search rules in
-    rw refused (refl, (refl, refl, no_slot s c.args.lsn c.args.pointer n))
+returns-in_err-i c = grind (arith, no_slot)
 
 pub returns-then-any_pending : goal.returns-then-any_pending
 returns-then-any_pending c =
@@ -32,11 +27,4 @@ put_pointer-requires c =
     record { able = a.0.able; short = w.2; slot = rw a.0.slots w.0 }
 
 pub returns : goal.returns
-returns c =
-    let s = c.args.self.now in
-    let a = c.in_ok-make_ready.ensures in
-    let h = found-index s.book c.args.lsn c.args.pointer c.live_at.result c.in_ok-j.j (search rules) c.live_at.ensures in
-    let slot : c.slot_of.result ≡ Some c.in_ok-i.i = search rules in
-    let b : SlotOf c.args.pointer (Some c.in_ok-i.i) = rw slot at c.slot_of.ensures in
-    moved s c.make_ready.new.self c.put_pointer.new.self c.args.pid c.args.lsn c.args.pointer c.in_ok-i.i c.in_ok-j.j c.index-h.result.now c.put_pointer.result h c.index-h.ensures b.0 b.1
-    (sym c.any_pending.ensures ∙ c.if-any_pending.false) a.0 a.1 c.put_pointer.ensures.put c.put_pointer.ensures.same
+returns c = grind (arith, moved)

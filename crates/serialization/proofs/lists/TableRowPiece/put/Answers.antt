@@ -1,19 +1,12 @@
-use Rattle.std.proofs.Common.{◌≡◌, ◌+◌, List, ◌++◌, map, length, take, sym, ap, ◌∙◌, subst, arith, length-append}
-use Rattle.std.proofs.lemmas.List.{take_all, length-map}
-use native.Mathlib.Nat.{mul-le-mul_right}
-use Rattle.bounded.specs.Rows.{rows_of}
-use Rattle.node.specs.Nodes.{Row}
+use Rattle.std.proofs.lemmas.Grind.{common_steps}
+use Rattle.std.proofs.Common.{◌+◌, length, ap, arith}
 use Rattle.node.specs.Meanings.{row_of}
 use Rattle.node.proofs.Tables.{few-rows}
-use Rattle.serialization.specs.Numbers.{number}
-use Rattle.serialization.specs.Formats.{row_bytes, each, list_bytes}
-use Rattle.serialization.specs.Fitting.{FitsRow, Every}
-use Rattle.serialization.proofs.Writing.{puts_then, puts_as}
-use Rattle.serialization.proofs.Listed.{rooms, kept_none, kept_more}
+use Rattle.serialization.specs.Formats.{row_bytes}
+use Rattle.serialization.specs.Fitting.{FitsRow}
+use Rattle.serialization.proofs.Writing.{puts_then}
+use Rattle.serialization.proofs.Listed.{rooms, kept_more}
 use Rattle.serialization.proofs.lists.TableRowPiece.put.Goals as goal
-
-pub loop-row-init : goal.loop-row-init
-loop-row-init g c = let v = g.V.Piece in kept_none (row_of v.meaning) (row_bytes v.bytes) (FitsRow v.Fits) (25 + v.most) c.as_slice-row-items.result.now c.put.new.to
 
 pub put-requires-in-loop-row : goal.put-requires-in-loop-row
 put-requires-in-loop-row g c =
@@ -33,23 +26,5 @@ loop-row-preserved g c =
     let p = c.put-in-loop-row.ensures in
     kept_more (row_of v.meaning) (row_bytes v.bytes) (FitsRow v.Fits) (25 + v.most) c.as_slice-row-items.result.now l.row-index c.put.new.to l.to c.put-in-loop-row.new.to c.row-item.result c.loop-row-test.true c.row-item.is l.invariant (omega (arith, c.put.ensures.puts.ends, c.put.ensures.puts.room, c.put.ensures.bound)) p.puts p.bound p.fits
 
-pub returns : goal.returns
-returns g c =
-    let v = g.V.Piece in
-    let l = c.loop-row in
-    let m = row_of v.meaning in
-    let f = row_bytes v.bytes in
-    let rows = c.as_slice-row-items.result.now in
-    let own = rows_of c.args.self.now in
-    let few = few-rows c.args.self.now in
-    let n = ap length c.as_slice-row-items.ensures in
-    let size = length-map own m in
-    let all : map m (take l.row-index rows) ≡ map m own = ap (map m) (take_all l.row-index rows c.loop-row-test.false ∙ c.as_slice-row-items.ensures) in
-    let e : number c.len.result ++ each f (map m (take l.row-index rows)) ≡ list_bytes f (map m own) = λ j. number ((c.len.ensures.0 ∙ sym size) j) ++ each f (all j) in
-    let whole = ap length (sym e) ∙ length-append (number c.len.result) (each f (map m (take l.row-index rows))) in
-    let most = mul-le-mul_right {m = l.row-index} {n = g.row.N} (25 + v.most) (omega arith) in
-    record {
-      puts = puts_as e (puts_then c.put.ensures.puts (omega (arith, c.put.ensures.bound)) l.invariant.puts);
-      bound = omega (arith, whole, most, l.invariant.few, c.put.ensures.bound);
-      fits = (omega (arith, size), subst (λ (xs : List (Row v.Meaning)). Every (FitsRow v.Fits) xs) all l.invariant.fit);
-    }
+pub returns-clause-puts : goal.returns-clause-puts
+returns-clause-puts g c = grind (arith, common_steps, puts_then)

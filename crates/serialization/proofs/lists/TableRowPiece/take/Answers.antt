@@ -1,36 +1,14 @@
-use Rattle.std.proofs.Common.{List, [], ◌∷◌, map, length, sym, ap, ◌∙◌, subst, arith, length-append}
+use Rattle.std.proofs.Common.{[], ◌∷◌, map, length, ap, ◌∙◌, arith, length-append}
 use Rattle.std.proofs.lemmas.List.{map-append}
-use Rattle.std.proofs.lemmas.Result.{err_from_is_err_and}
 use Rattle.bounded.specs.Rows.{rows_of}
-use Rattle.node.specs.Nodes.{Row}
 use Rattle.node.specs.Meanings.{row_of}
-use Rattle.serialization.specs.Parsing.{Parsed, times}
+use Rattle.serialization.specs.Parsing.{times}
 use Rattle.serialization.specs.Formats.{parse_row}
-use Rattle.serialization.specs.Calls.{Stops}
-use Rattle.serialization.proofs.Reading.{stops_then, list_long, list_within, rows_start, rows_again, rows_stop, rows_end}
+use Rattle.serialization.proofs.Reading.{rows_again, rows_stop, rows_end}
 use Rattle.serialization.proofs.lists.TableRowPiece.take.Goals as goal
 
-pub returns-in_err-count : goal.returns-in_err-count
-returns-in_err-count g c =
-    let p = err_from_is_err_and c.from_residual.result c.from_residual.ensures.1 in
-    rw (p.1, p.2) (stops_then _ _ c.in_err-count.field-0.0 c.in_err-count.ensures)
-
-pub returns-then-count : goal.returns-then-count
-returns-then-count g c = list_long (parse_row g.V.Piece.parse) g.row.N c.in_ok-count.count c.args.buf.now.now c.take.new.buf.now c.in_ok-count.ensures c.if-count.true
-
-pub loop-init : goal.loop-init
-loop-init g c =
-    let e = c.new-rows.ensures in
-    (ap length e, rows_start (parse_row g.V.Piece.parse) (map (row_of g.V.Piece.meaning) (rows_of c.new-rows.result)) c.in_ok-count.count c.take.new.buf.now (ap (map (row_of g.V.Piece.meaning)) e))
-
 pub returns-in_err-row : goal.returns-in_err-row
-returns-in_err-row g c =
-    let v = g.V.Piece in
-    let parse = parse_row v.parse in
-    let p = err_from_is_err_and c.from_residual-in_err-row.result c.from_residual-in_err-row.ensures.1 in
-    let l = c.loop in
-    let s = rows_stop parse c.in_ok-count.count l.counter (map (row_of v.meaning) (rows_of l.rows)) l.buf.now (times parse c.in_ok-count.count c.take.new.buf.now) l.invariant.1 c.in_err-row.field-0.0 c.loop-test.true c.in_err-row.ensures in
-    rw (p.1, p.2) (subst (λ (q : Parsed (List (Row v.Meaning))). Stops q c.in_err-row.field-0.0) (sym (list_within parse g.row.N c.in_ok-count.count c.args.buf.now.now c.take.new.buf.now c.in_ok-count.ensures c.if-count.false)) s)
+returns-in_err-row g c = grind (arith, rows_stop)
 
 pub loop-preserved : goal.loop-preserved
 loop-preserved g c =
@@ -45,9 +23,4 @@ loop-preserved g c =
     )
 
 pub returns : goal.returns
-returns g c =
-    let v = g.V.Piece in
-    let parse = parse_row v.parse in
-    let l = c.loop in
-    list_within parse g.row.N c.in_ok-count.count c.args.buf.now.now c.take.new.buf.now c.in_ok-count.ensures c.if-count.false
-    ∙ rows_end parse c.in_ok-count.count l.counter (map (row_of v.meaning) (rows_of l.rows)) l.buf.now (times parse c.in_ok-count.count c.take.new.buf.now) l.invariant.1 c.loop-test.false
+returns g c = grind (arith, rows_end)

@@ -1,3 +1,4 @@
+use Rattle.std.proofs.lemmas.Grind.{common_steps}
 use Rattle.std.proofs.Common.{◌≡◌, ℕ, List, ◌∷◌, ◌++◌, arith}
 use Rattle.bounded.specs.Bytes.{bytes_of}
 use Rattle.node.specs.Meanings.{data_of, parts_of}
@@ -15,4 +16,4 @@ returns-clause-puts c =
     puts_as e (puts_then c.put.ensures.puts (omega arith) (puts_then c.put-2.ensures.puts (omega arith) (puts_then c.put-3.ensures.puts (omega arith) (puts_then c.put-4.ensures.puts (omega arith) (puts_then c.put-5.ensures.puts (omega arith) (puts_then c.put-6.ensures.puts (omega arith) c.put-7.ensures.puts))))))
 
 pub returns-clause-bound : goal.returns-clause-bound
-returns-clause-bound c = let p = (returns-clause-puts c).ends in omega (arith, p)
+returns-clause-bound c = grind (arith, common_steps)

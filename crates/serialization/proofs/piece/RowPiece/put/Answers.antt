@@ -3,4 +3,4 @@ use Rattle.serialization.proofs.Writing.{puts_then}
 use Rattle.serialization.proofs.piece.RowPiece.put.Goals as goal
 
 pub returns-clause-puts : goal.returns-clause-puts
-returns-clause-puts g c = puts_then c.put.ensures.puts (omega arith) c.put-2.ensures.puts
+returns-clause-puts g c = grind (arith, puts_then)

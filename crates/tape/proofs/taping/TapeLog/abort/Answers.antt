@@ -1,16 +1,7 @@
-use Rattle.std.proofs.Common.{false}
-use Rattle.logs.specs.declared.messages.Event.TheVariants.{Abort}
-use Rattle.book.proofs.Logs.{settle-kin, on-settle}
-use Rattle.tape.specs.Tapes.{tape_fits}
+use Rattle.std.proofs.Common.{rules}
+use Rattle.book.proofs.Logs.{settle-kin}
 use Rattle.tape.proofs.Tapes.{kin_keeps}
 use Rattle.tape.proofs.taping.TapeLog.abort.Goals as goal
 
 pub invariant_of-self : goal.invariant_of-self
-invariant_of-self c =
-    let t = c.args.self.now in
-    record { kept = kin_keeps t.room (settle-kin t.book c.settle.new.self c.args.reservation Abort c.settle.result c.settle.ensures) t.kept }
-
-pub returns : goal.returns
-returns c =
-    let t = c.args.self.now in
-    on-settle (tape_fits t.room) (λ _. false) t.book c.settle.new.self c.args.reservation Abort c.settle.result c.settle.ensures
+invariant_of-self c = search (rules, settle-kin, kin_keeps)
