@@ -1,6 +1,5 @@
 -- A row that was found is replaced; one that was not is inserted where the search ended, or finds no room.
-use Rattle.std.proofs.Common.{arith}
-use Rattle.std.proofs.Common.{Ok, Err, sym}
+use Rattle.std.proofs.Common.{Ok, Err, sym, arith}
 use Rattle.bounded.specs.Rows.{rows_of}
 use Rattle.keyed.specs.declared.edits.TableFull.{TableFull}
 use Rattle.keyed.specs.Order.{lawful}

@@ -1,5 +1,4 @@
-use Rattle.std.proofs.Common.{arith}
-use Rattle.std.proofs.Common.{◌≡◌, Err, None, Some, rules}
+use Rattle.std.proofs.Common.{◌≡◌, Err, None, Some, rules, arith}
 use Rattle.fault.specs.declared.bytes_fault.BytesFault.TheVariants.{EndsEarly}
 use Rattle.serialization.proofs.Reading.{string_long, string_short, string_taken, string_stops}
 use Rattle.serialization.proofs.piece.take_string.Goals as goal
