@@ -1,6 +1,5 @@
 -- The row at the place that the seek found, or none, is what lookup finds.
-use Rattle.std.proofs.Common.{rules}
-use Rattle.std.proofs.Common.{sym}
+use Rattle.std.proofs.Common.{rules, sym}
 use Rattle.keyed.specs.Rows.{probe}
 use Rattle.keyed.proofs.Places.{found, missing, lookup-found, lookup-missing}
 use Rattle.keyed.proofs.seek.find_row.Goals as goal

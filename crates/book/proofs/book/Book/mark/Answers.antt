@@ -1,5 +1,4 @@
-use Rattle.std.proofs.Common.{rules}
-use Rattle.std.proofs.Common.{arith}
+use Rattle.std.proofs.Common.{rules, arith}
 use Rattle.std.proofs.lemmas.List.{take_more, take_all}
 use Rattle.book.proofs.Pages.{marks_none, marks_more, marks_all}
 use Rattle.book.proofs.book.Book.mark.Goals as goal

@@ -5,4 +5,7 @@ use Rattle.bounded.proofs.Shifts.{among}
 use Rattle.bounded.proofs.table.Table.replace.Goals as goal
 
 pub returns : goal.returns
-returns g c = grind (arith, take-set-lt, length-take-le, among)
+returns g c =
+    let t = c.args.self.now in
+    let n = length-take-le t.len t.rows (omega arith) in
+    (omega arith, among t.rows t.len c.args.i c.index-self-i.result (omega arith) (omega arith), take-set-lt t.len t.rows c.args.i c.args.x (omega arith))

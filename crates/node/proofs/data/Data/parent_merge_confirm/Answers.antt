@@ -1,6 +1,5 @@
-use Rattle.std.proofs.Common.{arith}
+use Rattle.std.proofs.Common.{◌≡◌, Some, rules, arith}
 use Rattle.std.proofs.lemmas.Grind.{common_steps}
-use Rattle.std.proofs.Common.{◌≡◌, Some, rules}
 use Rattle.node.proofs.Changing.{confirm_done, confirm_refused}
 use Rattle.node.proofs.data.Data.parent_merge_confirm.Goals as goal
 

@@ -1,5 +1,4 @@
-use Rattle.std.proofs.Common.{arith}
-use Rattle.std.proofs.Common.{◌≡◌, Some, sym, refl, ◌∙◌, rules}
+use Rattle.std.proofs.Common.{◌≡◌, Some, sym, refl, ◌∙◌, rules, arith}
 use Rattle.book.proofs.Pages.{found-index}
 use Rattle.segmented.specs.Layout.{SlotOf}
 use Rattle.segmented.proofs.Putting.{no_slot, blob-home, there-blob, moved}
