@@ -1,5 +1,5 @@
 -- The rows of a node after one edit of its table, call by call. Assumes nothing.
-use Rattle.std.proofs.Common.{◌≡◌, ℕ, Bool, true, false, cond, ltb, List, map, length, is_some, Some, None, Ok, Err, Option, Result, is_ok, Ordering, sym, refl, ap, ◌∙◌, subst, arith}
+use Rattle.std.proofs.Common.{◌≡◌, ℕ, ◌^◌, ◌<◌, Bool, true, false, cond, ltb, List, map, length, is_some, Some, None, Ok, Err, Option, Result, is_ok, Ordering, sym, refl, ap, ◌∙◌, subst, arith}
 use Rattle.std.specs.Option.{option_map}
 use Rattle.std.proofs.lemmas.Bool.{false≢true, true≢false}
 use Rattle.fault.specs.declared.node_fault.NodeFault.TheVariants.{Full, NoPointer}
@@ -25,26 +25,26 @@ module _ (d : Data) (t t' : Table LeafRow 16) (is : d ≡ Leaf t) (up : ordered_
   leaf_up : ordered (map leaf_row (rows_of t)) ≡ true
   leaf_up = subst (λ (x : Data). ordered_rows (data_of x) ≡ true) is up
 
-  set_done : (k : IVec 24) (v : IVec 40) (former : Option LeafRow) → (rising (row_order leaf_row) (rows_of t) ≡ true → Put {E = TableFull} (row_order leaf_row) (record { key = k; value = v }) 16 (rows_of t) (rows_of t') (Ok former)) → (set_rows (bytes_of k) (bytes_of v) (data_of d) ≡ Ok (data_of (Leaf t'))) × (ordered (map leaf_row (rows_of t')) ≡ true)
-  set_done k v former done =
-      let h = put_done leaf_row TableFull 16 (record { key = k; value = v }) (rows_of t) (rows_of t') leaf_up former done (few-rows t') in
-      (ap (λ x. set_rows (bytes_of k) (bytes_of v) (data_of x)) is ∙ ap (λ b. cond b (Ok (leaf (put (sought (bytes_of k)) (bytes_of k, bytes_of v) (map leaf_row (rows_of t))))) (Err Full)) h.0 ∙ ap (λ l. Ok (leaf l)) (sym h.1), h.2)
+  module _ (r : LeafRow) where
+    set_done : (former : Option LeafRow) → (rising (row_order leaf_row) (rows_of t) ≡ true → Put {E = TableFull} (row_order leaf_row) r 16 (rows_of t) (rows_of t') (Ok former)) → (set_rows (bytes_of r.key) (bytes_of r.value) (data_of d) ≡ Ok (data_of (Leaf t'))) × (ordered (map leaf_row (rows_of t')) ≡ true)
+    set_done former done =
+        let h = put_done leaf_row TableFull 16 r (rows_of t) (rows_of t') leaf_up former done (few-rows t') in
+        (ap (λ x. set_rows (bytes_of r.key) (bytes_of r.value) (data_of x)) is ∙ ap (λ b. cond b (Ok (leaf (put (sought (bytes_of r.key)) (leaf_row r) (map leaf_row (rows_of t))))) (Err Full)) h.0 ∙ ap (λ l. Ok (leaf l)) (sym h.1), h.2)
 
-  set_refused : (k : IVec 24) (v : IVec 40) (x : TableFull) → (rising (row_order leaf_row) (rows_of t) ≡ true → Put {E = TableFull} (row_order leaf_row) (record { key = k; value = v }) 16 (rows_of t) (rows_of t') (Err x)) → set_rows (bytes_of k) (bytes_of v) (data_of d) ≡ Err Full
-  set_refused k v x done =
-      let h = put_refused leaf_row TableFull 16 (record { key = k; value = v }) (rows_of t) (rows_of t') leaf_up x done in
-      ap (λ x. set_rows (bytes_of k) (bytes_of v) (data_of x)) is ∙ ap (λ b. cond b (Ok (leaf (put (sought (bytes_of k)) (bytes_of k, bytes_of v) (map leaf_row (rows_of t))))) (Err Full)) h
+    set_refused : (x : TableFull) → (rising (row_order leaf_row) (rows_of t) ≡ true → Put {E = TableFull} (row_order leaf_row) r 16 (rows_of t) (rows_of t') (Err x)) → set_rows (bytes_of r.key) (bytes_of r.value) (data_of d) ≡ Err Full
+    set_refused x done =
+        let h = put_refused leaf_row TableFull 16 r (rows_of t) (rows_of t') leaf_up x done in
+        ap (λ x. set_rows (bytes_of r.key) (bytes_of r.value) (data_of x)) is ∙ ap (λ b. cond b (Ok (leaf (put (sought (bytes_of r.key)) (leaf_row r) (map leaf_row (rows_of t))))) (Err Full)) h
 
-  module _ (k : IVec 24) (v : IVec 40) where
-    pub set_ok : (u : Result (Option LeafRow) TableFull) → is_ok u ≡ true → (rising (row_order leaf_row) (rows_of t) ≡ true → Put {E = TableFull} (row_order leaf_row) (record { key = k; value = v }) 16 (rows_of t) (rows_of t') u) → (set_rows (bytes_of k) (bytes_of v) (data_of d) ≡ Ok (data_of (Leaf t'))) × (ordered (map leaf_row (rows_of t')) ≡ true)
-    set_ok (Ok former) h done = set_done k v former done
+    pub set_ok : (u : Result (Option LeafRow) TableFull) → is_ok u ≡ true → (rising (row_order leaf_row) (rows_of t) ≡ true → Put {E = TableFull} (row_order leaf_row) r 16 (rows_of t) (rows_of t') u) → (set_rows (bytes_of r.key) (bytes_of r.value) (data_of d) ≡ Ok (data_of (Leaf t'))) × (ordered (map leaf_row (rows_of t')) ≡ true)
+    set_ok (Ok former) h done = set_done former done
     set_ok (Err x) h done = absurd (false≢true h)
 
-    pub set_err : (u : Result (Option LeafRow) TableFull) → is_ok u ≡ false → (rising (row_order leaf_row) (rows_of t) ≡ true → Put {E = TableFull} (row_order leaf_row) (record { key = k; value = v }) 16 (rows_of t) (rows_of t') u) → (set_rows (bytes_of k) (bytes_of v) (data_of d) ≡ Err Full) × (data_of (Leaf t') ≡ data_of d) × (ordered (map leaf_row (rows_of t')) ≡ true)
+    pub set_err : (u : Result (Option LeafRow) TableFull) → is_ok u ≡ false → (rising (row_order leaf_row) (rows_of t) ≡ true → Put {E = TableFull} (row_order leaf_row) r 16 (rows_of t) (rows_of t') u) → (set_rows (bytes_of r.key) (bytes_of r.value) (data_of d) ≡ Err Full) × (data_of (Leaf t') ≡ data_of d) × (ordered (map leaf_row (rows_of t')) ≡ true)
     set_err (Ok former) h done = absurd (true≢false h)
     set_err (Err x) h done =
         let same = (done (rises leaf_row (rows_of t) leaf_up)).2 in
-        (set_refused k v x done, ap (λ l. leaf (map leaf_row l)) same ∙ ap data_of (sym is), ap (λ l. ordered (map leaf_row l)) same ∙ leaf_up)
+        (set_refused x done, ap (λ l. leaf (map leaf_row l)) same ∙ ap data_of (sym is), ap (λ l. ordered (map leaf_row l)) same ∙ leaf_up)
 
   pub del_done : (k : IVec 24) (former : Option LeafRow) → (rising (row_order leaf_row) (rows_of t) ≡ true → Removed (row_order leaf_row) (λ x. sought (bytes_of k) (leaf_row x)) (rows_of t) (rows_of t') former) → (del_rows (bytes_of k) (data_of d) ≡ Ok (data_of (Leaf t'))) × (ordered (map leaf_row (rows_of t')) ≡ true)
   del_done k former done =
@@ -72,7 +72,10 @@ module _ (d : Data) (t : Table IndexRow 16) (is : d ≡ Index t) where
     unfolding splits
     split_there o some finds = split_by true (ltb (length (map index_row (rows_of t))) 16) (ap is_some (looked o finds) ∙ mapped_some index_row o ∙ some) refl ∙ ap (λ y. Ok (false, data_of y)) (sym is)
 
-    module _ (t' : Table IndexRow 16) (o : Option IndexRow) (none : is_some o ≡ false) (finds : rising (row_order index_row) rows ≡ true → o ≡ lookup (λ y. sought (bytes_of k) (index_row y)) rows) where
+    module _ (t' : Table IndexRow 16) (fits : to < 2 ^ 64) (o : Option IndexRow) (none : is_some o ≡ false) (finds : rising (row_order index_row) rows ≡ true → o ≡ lookup (λ y. sought (bytes_of k) (index_row y)) rows) where
+      abbrev row : IndexRow
+      row = record { key = k; value = to; fits = fits }
+
       absent : is_some (lookup (sought (bytes_of k)) (map index_row (rows_of t))) ≡ false
       absent = ap is_some (looked o finds) ∙ mapped_some index_row o ∙ none
 
@@ -80,22 +83,22 @@ module _ (d : Data) (t : Table IndexRow 16) (is : d ≡ Index t) where
       room-is : (b : Bool) → room_for 16 (bytes_of k) (map index_row (rows_of t)) ≡ b → ltb (length (map index_row (rows_of t))) 16 ≡ b
       room-is b e = sym (ap (λ x. cond x true (ltb (length (map index_row (rows_of t))) 16)) absent) ∙ e
 
-      split_done : (former : Option IndexRow) → (rising (row_order index_row) (rows_of t) ≡ true → Put {E = TableFull} (row_order index_row) (record { key = k; value = to }) 16 (rows_of t) (rows_of t') (Ok former)) → (split_rows (bytes_of k) to (data_of d) ≡ Ok (true, data_of (Index t'))) × (ordered (map index_row (rows_of t')) ≡ true)
+      split_done : (former : Option IndexRow) → (rising (row_order index_row) (rows_of t) ≡ true → Put {E = TableFull} (row_order index_row) row 16 (rows_of t) (rows_of t') (Ok former)) → (split_rows (bytes_of k) to (data_of d) ≡ Ok (true, data_of (Index t'))) × (ordered (map index_row (rows_of t')) ≡ true)
       unfolding splits
       split_done former done =
-          let h = put_done index_row TableFull 16 (record { key = k; value = to }) (rows_of t) (rows_of t') index_up former done (few-rows t') in
+          let h = put_done index_row TableFull 16 row (rows_of t) (rows_of t') index_up former done (few-rows t') in
           (split_by false true absent (room-is true h.0) ∙ ap (λ l. Ok (true, index l)) (sym h.1), h.2)
 
-      split_refused : (x : TableFull) → (rising (row_order index_row) (rows_of t) ≡ true → Put {E = TableFull} (row_order index_row) (record { key = k; value = to }) 16 (rows_of t) (rows_of t') (Err x)) → split_rows (bytes_of k) to (data_of d) ≡ Err Full
+      split_refused : (x : TableFull) → (rising (row_order index_row) (rows_of t) ≡ true → Put {E = TableFull} (row_order index_row) row 16 (rows_of t) (rows_of t') (Err x)) → split_rows (bytes_of k) to (data_of d) ≡ Err Full
       unfolding splits
       split_refused x done =
-          split_by false false absent (room-is false (put_refused index_row TableFull 16 (record { key = k; value = to }) (rows_of t) (rows_of t') index_up x done))
+          split_by false false absent (room-is false (put_refused index_row TableFull 16 row (rows_of t) (rows_of t') index_up x done))
 
-      pub split_ok : (u : Result (Option IndexRow) TableFull) → is_ok u ≡ true → (rising (row_order index_row) (rows_of t) ≡ true → Put {E = TableFull} (row_order index_row) (record { key = k; value = to }) 16 (rows_of t) (rows_of t') u) → (split_rows (bytes_of k) to (data_of d) ≡ Ok (true, data_of (Index t'))) × (ordered (map index_row (rows_of t')) ≡ true)
+      pub split_ok : (u : Result (Option IndexRow) TableFull) → is_ok u ≡ true → (rising (row_order index_row) (rows_of t) ≡ true → Put {E = TableFull} (row_order index_row) row 16 (rows_of t) (rows_of t') u) → (split_rows (bytes_of k) to (data_of d) ≡ Ok (true, data_of (Index t'))) × (ordered (map index_row (rows_of t')) ≡ true)
       split_ok (Ok former) h done = split_done former done
       split_ok (Err x) h done = absurd (false≢true h)
 
-      pub split_err : (u : Result (Option IndexRow) TableFull) → is_ok u ≡ false → (rising (row_order index_row) (rows_of t) ≡ true → Put {E = TableFull} (row_order index_row) (record { key = k; value = to }) 16 (rows_of t) (rows_of t') u) → (split_rows (bytes_of k) to (data_of d) ≡ Err Full) × (data_of (Index t') ≡ data_of d) × (ordered (map index_row (rows_of t')) ≡ true)
+      pub split_err : (u : Result (Option IndexRow) TableFull) → is_ok u ≡ false → (rising (row_order index_row) (rows_of t) ≡ true → Put {E = TableFull} (row_order index_row) row 16 (rows_of t) (rows_of t') u) → (split_rows (bytes_of k) to (data_of d) ≡ Err Full) × (data_of (Index t') ≡ data_of d) × (ordered (map index_row (rows_of t')) ≡ true)
       split_err (Ok former) h done = absurd (true≢false h)
       split_err (Err x) h done =
           let same = (done (rises index_row (rows_of t) index_up)).2 in

@@ -16,7 +16,6 @@ use Rattle.node.specs.declared.meta.Meta.{Meta}
 use Rattle.fault.specs.declared.node_fault.NodeFault.TheVariants.{TooManyRoots}
 use Rattle.keyed.specs.declared.edits.TableFull.{TableFull}
 use Rattle.bounded.specs.Bytes.{bytes_of}
-use Rattle.bounded.specs.declared.ivec.IVec.{IVec}
 
 -- ---- how many rows a put leaves
 
@@ -102,25 +101,25 @@ pub page-is : (o : Option IndexRow) (p : Option ℕ) → p ≡ option_map (λ r.
 page-is None p e = e
 page-is (Some r) p e = e
 
-module _ (name : IVec 24) (pid : ℕ) (m : Meta) (t : Table IndexRow 8) where
+module _ (r : IndexRow) (m : Meta) (t : Table IndexRow 8) where
   wanted : Bool → Changed (List (Row ℕ))
-  wanted b = cond b (Ok (put (sought (bytes_of name)) (bytes_of name, pid) (meta_of m))) (Err TooManyRoots)
+  wanted b = cond b (Ok (put (sought (bytes_of r.key)) (index_row r) (meta_of m))) (Err TooManyRoots)
 
   -- what putting the root leaves and answers
   abbrev pub Puts : Result (Option IndexRow) TableFull → Type 0
-  Puts u = rising (row_order index_row) (rows_of m.roots) ≡ true → Put {E = TableFull} (row_order index_row) (record { key = name; value = pid }) 8 (rows_of m.roots) (rows_of t) u
+  Puts u = rising (row_order index_row) (rows_of m.roots) ≡ true → Put {E = TableFull} (row_order index_row) r 8 (rows_of m.roots) (rows_of t) u
 
   pub root_ordered : (u : Result (Option IndexRow) TableFull) → Puts u → ordered (roots_of (rows_of t)) ≡ true
-  root_ordered (Ok former) done = (put_done index_row TableFull 8 (record { key = name; value = pid }) (rows_of m.roots) (rows_of t) m.ruled former done (few-rows t)).2
+  root_ordered (Ok former) done = (put_done index_row TableFull 8 r (rows_of m.roots) (rows_of t) m.ruled former done (few-rows t)).2
   root_ordered (Err x) done = ap ordered (ap roots_of (done (rises index_row (rows_of m.roots) m.ruled)).2) ∙ m.ruled
 
-  pub root_ok : (u : Result (Option IndexRow) TableFull) (former : Option IndexRow) (p : Option ℕ) → u ≡ Ok former → p ≡ option_map (λ r. r.value) former → Puts u → (set_root (bytes_of name) pid (meta_of m) ≡ Ok (roots_of (rows_of t))) × (p ≡ root_for (bytes_of name) (meta_of m))
+  pub root_ok : (u : Result (Option IndexRow) TableFull) (former : Option IndexRow) (p : Option ℕ) → u ≡ Ok former → p ≡ option_map (λ r. r.value) former → Puts u → (set_root (bytes_of r.key) r.value (meta_of m) ≡ Ok (roots_of (rows_of t))) × (p ≡ root_for (bytes_of r.key) (meta_of m))
   unfolding wanted
   root_ok u former p is value done =
-      let h = put_done index_row TableFull 8 (record { key = name; value = pid }) (rows_of m.roots) (rows_of t) m.ruled former (subst Puts is done) (few-rows t) in
+      let h = put_done index_row TableFull 8 r (rows_of m.roots) (rows_of t) m.ruled former (subst Puts is done) (few-rows t) in
       (ap wanted h.0 ∙ ap Ok (sym h.1), page-is former p value ∙ ap page_of h.3)
 
-  pub root_err : (u : Result (Option IndexRow) TableFull) → is_ok u ≡ false → Puts u → (set_root (bytes_of name) pid (meta_of m) ≡ Err TooManyRoots) × (roots_of (rows_of t) ≡ meta_of m)
+  pub root_err : (u : Result (Option IndexRow) TableFull) → is_ok u ≡ false → Puts u → (set_root (bytes_of r.key) r.value (meta_of m) ≡ Err TooManyRoots) × (roots_of (rows_of t) ≡ meta_of m)
   unfolding wanted
   root_err (Ok former) h done = absurd (true≢false h)
-  root_err (Err x) h done = (ap wanted (put_refused index_row TableFull 8 (record { key = name; value = pid }) (rows_of m.roots) (rows_of t) m.ruled x done), ap roots_of (done (rises index_row (rows_of m.roots) m.ruled)).2)
+  root_err (Err x) h done = (ap wanted (put_refused index_row TableFull 8 r (rows_of m.roots) (rows_of t) m.ruled x done), ap roots_of (done (rises index_row (rows_of m.roots) m.ruled)).2)

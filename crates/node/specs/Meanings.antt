@@ -7,6 +7,9 @@ use Rattle.bounded.specs.Bytes.{bytes_of}
 use Rattle.bounded.specs.Rows.{rows_of}
 use Rattle.bounded.specs.declared.ivec.IVec.{IVec}
 use Rattle.node.specs.declared.rows.Row.{Row as Kept}
+use Rattle.node.specs.declared.rows.Held.{Ghosts as HeldOf}
+use Rattle.node.specs.contracts.rows.PageIdHeld.TheImpl as page
+use Rattle.node.specs.contracts.rows.ValueHeld.TheImpl as value
 use Rattle.node.specs.declared.data.Data.{Data}
 use Rattle.node.specs.declared.data.Data.TheVariants.{Index, Leaf}
 use Rattle.node.specs.declared.link.Link.{Link}
@@ -17,13 +20,13 @@ use Rattle.node.specs.Links.{Step, set, del, intend, confirm, cap, pointing}
 
 -- the rows of a leaf, and those of an index and of a Meta
 abbrev pub LeafRow : Type 0
-LeafRow = Kept (IVec 40)
+LeafRow = Kept (IVec 40) value.ghosts
 
 abbrev pub IndexRow : Type 0
-IndexRow = Kept ℕ
+IndexRow = Kept ℕ page.ghosts
 
 -- a row, by what its value means
-abbrev pub row_of : {V M : Type 0} → (V → M) → Kept V → Row M
+abbrev pub row_of : {V M : Type 0} {held : HeldOf V} → (V → M) → Kept V held → Row M
 row_of meaning r = (bytes_of r.key, meaning r.value)
 
 abbrev pub leaf_row : LeafRow → Row Str

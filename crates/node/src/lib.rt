@@ -17,4 +17,4 @@ pub use link::Link;
 pub use meta::Meta;
 pub use node::Node;
 pub use parts::NodeParts;
-pub use rows::{IndexRow, Key, LeafRow, Root, Row, Value};
+pub use rows::{Held, IndexRow, Key, LeafRow, Root, Row, Value};

@@ -15,7 +15,7 @@ use crate::command::{Change, Kind, Row, Rows, Shape};
 use bounded::Table;
 use fault::{BytesFault, NodeFault, PageId, ValueFault};
 use node::rows::ROWS;
-use node::{Data, Key, Link, Meta, Node, NodeParts, Value};
+use node::{Data, Held, Key, Link, Meta, Node, NodeParts, Value};
 use serialization::Free;
 use serialization::serialize::decode;
 
@@ -38,7 +38,7 @@ pub fn link_of(change: &Change) -> Result<Link, ValueFault>
 
 // A value or a page that a row was asked to have, and what is made of it.
 trait Asked {
-    type Made: Copy + Default;
+    type Made: Held + Copy + Default;
 
     ghost Meaning: { Type 0 };
 
@@ -81,10 +81,10 @@ impl Asked for PageId {
 fn row_of<A: Asked>(row: &Row<A>) -> Result<node::Row<A::Made>, BytesFault>
     ensures { MatchResult result (λ r. row_of A.made r ≡ row_asked A.asked row.now) (λ e. e ≡ TooLong) }
 {
-    Ok(node::Row {
-        key: Key::from_slice(row.key.as_slice())?,
-        value: row.value.make()?,
-    })
+    let key = Key::from_slice(row.key.as_slice())?;
+    let value = row.value.make()?;
+    value.held();
+    Ok(node::Row { key, value })
 }
 
 fn table_of<A: Asked>(rows: &[Row<A>]) -> Result<Table<node::Row<A::Made>, ROWS>, ValueFault>

@@ -1,7 +1,7 @@
 // Nodes, links and roots in words, as the lines write them.
 use crate::strings::Escaped;
 use fault::PageId;
-use node::{Data, Link, Meta, Node, NodeParts, Row, Value};
+use node::{Data, Held, Link, Meta, Node, NodeParts, Row, Value};
 use std::fmt;
 
 // A page, or none.
@@ -72,7 +72,10 @@ impl Shown for PageId {
     }
 }
 
-fn show_rows<V: Shown, W: fmt::Write>(rows: &[Row<V>], f: &mut fmt::Formatter<W>) -> fmt::Result {
+fn show_rows<V: Held + Shown, W: fmt::Write>(
+    rows: &[Row<V>],
+    f: &mut fmt::Formatter<W>,
+) -> fmt::Result {
     for row in rows {
         let key = Escaped(row.key.as_slice());
         write!(f, " {key}=")?;

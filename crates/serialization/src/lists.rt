@@ -10,9 +10,9 @@ use crate::piece::Piece;
 use crate::writer::Writer;
 use bounded::Table;
 use fault::BytesFault;
-use node::Row;
+use node::{Held, Row};
 
-impl<V: Piece + Copy + Default, const N: usize> Piece for Table<Row<V>, N> {
+impl<V: Piece + Held + Copy + Default, const N: usize> Piece for Table<Row<V>, N> {
     ghost Meaning = { List (Row V.Meaning) };
 
     ghost meaning = { λ t. map (row_of V.meaning) (rows_of t) };

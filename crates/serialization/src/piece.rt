@@ -15,7 +15,7 @@ use crate::serialize::PAYLOAD;
 use crate::writer::Writer;
 use bounded::IVec;
 use fault::BytesFault;
-use node::{Key, Row};
+use node::{Held, Key, Row};
 
 // A part of a payload.
 pub(crate) trait Piece: Sized {
@@ -173,7 +173,7 @@ impl<const N: usize> Piece for IVec<N> {
 }
 
 // A row as bytes: its key, and then what it leads to.
-impl<V: Piece> Piece for Row<V> {
+impl<V: Piece + Held> Piece for Row<V> {
     ghost Meaning = { Row V.Meaning };
 
     ghost meaning = { row_of V.meaning };
@@ -189,6 +189,7 @@ impl<V: Piece> Piece for Row<V> {
     fn take(buf: &mut &[u8]) -> Result<Row<V>, BytesFault> {
         let key = Key::take(buf)?;
         let value = V::take(buf)?;
+        value.held();
         Ok(Row { key, value })
     }
 

@@ -14,12 +14,12 @@ returns-then-is_some-clause-does c =
 pub returns : goal.returns
 returns c =
     let gone = mapped_some (λ x. x.now) c.find_row.result ∙ sym c.is_some.ensures ∙ c.if-is_some.false in
-    let h = split_ok c.args.self.now c.in-Index.rows c.in-Index.is c.requires c.args.key c.args.to c.as_slice.result.now c.as_slice.ensures c.set_row.new.table (option_map (λ x. x.now) c.find_row.result) gone c.find_row.ensures c.set_row.result (sym c.in_ok-map_err.ensures.variant) c.set_row.ensures in
+    let h = split_ok c.args.self.now c.in-Index.rows c.in-Index.is c.requires c.args.key c.args.to c.as_slice.result.now c.as_slice.ensures c.set_row.new.table _ (option_map (λ x. x.now) c.find_row.result) gone c.find_row.ensures c.set_row.result (sym c.in_ok-map_err.ensures.variant) c.set_row.ensures in
     record { does = h.0; ordered = h.1 }
 
 pub returns-in_err-map_err : goal.returns-in_err-map_err
 returns-in_err-map_err c =
     let r : c.from_residual.result ≡ Err Full = search rules in
     let gone = mapped_some (λ x. x.now) c.find_row.result ∙ sym c.is_some.ensures ∙ c.if-is_some.false in
-    let h = split_err c.args.self.now c.in-Index.rows c.in-Index.is c.requires c.args.key c.args.to c.as_slice.result.now c.as_slice.ensures c.set_row.new.table (option_map (λ x. x.now) c.find_row.result) gone c.find_row.ensures c.set_row.result (sym c.in_err-map_err.ensures.variant) c.set_row.ensures in
+    let h = split_err c.args.self.now c.in-Index.rows c.in-Index.is c.requires c.args.key c.args.to c.as_slice.result.now c.as_slice.ensures c.set_row.new.table _ (option_map (λ x. x.now) c.find_row.result) gone c.find_row.ensures c.set_row.result (sym c.in_err-map_err.ensures.variant) c.set_row.ensures in
     record { does = rw r (h.0, h.1); ordered = h.2 }
