@@ -104,11 +104,13 @@ impl<L: Log> Drill<L> {
     // A message that was written once, if any; mostly the next live one from a random place on.
     fn pick(&mut self) -> Option<Plain> {
         let from = self.random.index(self.model.plains.len())?;
-        let mut rest = self.model.plains.iter().copied().skip(from);
+        let rest = &self.model.plains[from..];
         if self.random.draw() % 4 == 0 {
-            return rest.next();
+            return rest.first().copied();
         }
-        rest.find(|plain| plain.status == Status::Live)
+        rest.iter()
+            .find(|plain| plain.status == Status::Live)
+            .copied()
     }
 
     // The page of a message, or another.

@@ -1,12 +1,12 @@
--- Rows in order by their places: what a search that ends at a place says of lookup, put and without, and what std's
--- binary search and its test of neighbours say. Assumes nothing.
-use Rattle.std.proofs.Common.{◌≡◌, ℕ, zero, suc, ◌<◌, ◌≤◌, Bool, true, false, cond, List, [], ◌∷◌, length, get_or, set, Some, None, Ok, Err, Result, Ordering, Less, Equal, Greater, sym, refl, ap, ◌∙◌, subst, add-one, le_of_eq, ⊎_elim, le_of_suc-le-suc, arith}
+-- Rows in order by their places: what a search that ends at a place says of lookup, put and without, what one comparison says
+-- of the rows before and after, and what std's test of neighbours says. Assumes nothing.
+use Rattle.std.proofs.Common.{◌≡◌, ℕ, zero, suc, ◌+◌, ◌<◌, ◌≤◌, Bool, true, false, cond, List, [], ◌∷◌, length, get_or, set, Some, None, Ok, Err, Ordering, Less, Equal, Greater, sym, refl, ap, ◌∙◌, subst, add-one, ⊎_elim, le_of_suc-le-suc, arith}
 use Rattle.std.specs.List.{insert, remove, IsAllAdjacentAnswer}
-use Rattle.std.specs.List.Sorted.{IsBinarySearchResult, IsSearchInRange, IsNonDecreasingBy}
-use Rattle.std.specs.Ordering.{is_lt, ordering_reverse, ordering_index}
+use Rattle.std.specs.Ordering.{is_lt, ordering_reverse}
+use Rattle.std.proofs.lemmas.List.{get_or_read}
 use Rattle.std.proofs.lemmas.Bool.{cases_eq, false≢true}
 use Rattle.keyed.specs.Order.{Lawful}
-use Rattle.keyed.specs.Rows.{between, probe, rising, lookup, put, without, Searched}
+use Rattle.keyed.specs.Rows.{between, probe, rising, lookup, put, without, Passed, Ahead, Searched}
 
 -- what is sought stands at the place i, or would stand there
 pub data Found {R : Type 0} (p : R → Ordering) : List R → ℕ → Type 0 where
@@ -84,6 +84,12 @@ module _ {R : Type 0} where
   Rising o [] = Unit {0}
   Rising o (x ∷ xs) = Above (o x) xs × Rising o xs
 
+  -- what a comparison with the row at m says of where to search on
+  abbrev pub Tells : (R → Ordering) → List R → ℕ → Ordering → Type 0
+  Tells p xs m Less = Ahead p xs m
+  Tells p xs m Equal = Searched p xs (Ok m)
+  Tells p xs m Greater = Passed p xs (m + 1)
+
 module _ {R : Type 0} (o : R → R → Ordering) where
   pub rising_tested : (xs : List R) → Rising o xs → rising o xs ≡ true
   rising_tested [] h = refl
@@ -117,10 +123,10 @@ module _ {R : Type 0} (o : R → R → Ordering) where
   rising_answer xs true h = all_next xs (λ k d l. rw (← add-one k) (h k d (omega arith)))
   rising_answer xs false h = not_next xs h.0 (omega (arith, h.1)) (λ d. rw (← add-one h.0) (h.2 d))
 
-index_most : (t : Ordering) → ordering_index t ≤ 2
-index_most Less = omega arith
-index_most Equal = omega arith
-index_most Greater = omega arith
+module _ {R K : Type 0} (ord : K → K → Ordering) (key : R → K) where
+  -- what a comparison of a key with that of the row at m says of the row, at any default
+  told : (q k : K) (xs : List R) (m : ℕ) (x : R) (t : Ordering) → k ≡ key x → x ≡ get_or xs m x → m < length xs → t ≡ ord q k → (d : R) → probe ord key q (get_or xs m d) ≡ t
+  told q k xs m x t of-x at-m l says d = sym (says ∙ ap (λ y. ord q y) (of-x ∙ ap key (get_or_read xs m x l at-m d)))
 
 module _ {R K : Type 0} (ord : K → K → Ordering) (key : R → K) (laws : Lawful ord) where
   pub Above_weaker : (p q : K) (xs : List R) → ord p q ≡ Less → Above (probe ord key q) xs → Above (probe ord key p) xs
@@ -142,25 +148,20 @@ module _ {R K : Type 0} (ord : K → K → Ordering) (key : R → K) (laws : Law
     turned : (x y : K) (t : Ordering) → ord y x ≡ t → ord x y ≡ ordering_reverse t
     turned x y t e = laws.flip x y ∙ ap ordering_reverse e
 
-    -- of two rows the first stands no later to a key
-    index_below : (a b q : K) → ord a b ≡ Less → (t : Ordering) → ord b q ≡ t → ordering_index (ord a q) ≤ ordering_index t
-    index_below a b q e Less f = rw (laws.trans a b q e f) (omega arith)
-    index_below a b q e Equal f = let h : ord a q ≡ Less = subst (λ (k : K). ord a k ≡ Less) (laws.same b q f) e in rw h (omega arith)
-    index_below a b q e Greater f = index_most (ord a q)
-
-    -- the rows stand to a key in the order less, equal, greater
-    by_index : (q : K) → IsNonDecreasingBy (λ y. ordering_index (ord (key y) q)) xs
-    by_index q i j d h l =
+    tells : (q : K) (m : ℕ) (t : Ordering) → m < length xs → ((d : R) → probe ord key q (get_or xs m d) ≡ t) → Tells (probe ord key q) xs m t
+    tells q m Less l e = λ j d h k.
         ⊎_elim
-        (λ (p : i ≡ j). le_of_eq (ap (λ n. ordering_index (ord (key (get_or xs n d)) q)) p))
-        (λ (p : i ≡ j → ⊥). index_below _ _ q (rising-at i j d (omega arith) l) _ refl)
-        (cases_eq i j)
+        (λ (p : j ≡ m). ap (λ n. ord q (key (get_or xs n d))) p ∙ e d)
+        (λ (p : j ≡ m → ⊥). laws.trans _ _ _ (e d) (rising-at m j d (omega arith) k))
+        (cases_eq j m)
+    tells q m Equal l e =
+        (l, λ j d h. turned q (key (get_or xs j d)) Less (subst (λ (k : K). ord (key (get_or xs j d)) k ≡ Less) (sym (laws.same q (key (get_or xs m d)) (e d))) (rising-at j m d h l)), e)
+    tells q m Greater l e = λ j d h.
+        ⊎_elim
+        (λ (p : j ≡ m). ap (λ n. ord q (key (get_or xs n d))) p ∙ e d)
+        (λ (p : j ≡ m → ⊥). turned q (key (get_or xs j d)) Less (laws.trans _ _ _ (rising-at j m d (omega arith) l) (turned (key (get_or xs m d)) q Greater (e d))))
+        (cases_eq j m)
 
-    -- what a binary search by the order of each key to q answers is where q is, or would stand
-    pub searched : (q : K) (r : Result ℕ ℕ) → IsSearchInRange r (length xs) → IsBinarySearchResult (λ y. ord (key y) q) xs r → Searched (probe ord key q) xs r
-    searched q (Ok i) l h =
-        let e = λ (d : R). turned q (key (get_or xs i d)) Equal (h d) in
-        (l, λ j d k. turned q (key (get_or xs j d)) Less (subst (λ (k : K). ord (key (get_or xs j d)) k ≡ Less) (sym (laws.same q (key (get_or xs i d)) (e d))) (rising-at j i d k l)), e)
-    searched q (Err i) l h =
-        let p = h (by_index q) in
-        (l, λ j d k. turned q (key (get_or xs j d)) Less (p.0 j d (omega arith) k), λ j d k m. turned q (key (get_or xs j d)) Greater (p.1 j d k m))
+    -- what the comparison of q with k, the key of the row x at m, says
+    pub compared : (q k : K) (m : ℕ) (x : R) (t : Ordering) → k ≡ key x → x ≡ get_or xs m x → m < length xs → t ≡ ord q k → Tells (probe ord key q) xs m t
+    compared q k m x t of-x at-m l says = tells q m t l (told ord key q k xs m x t of-x at-m l says)

@@ -1,7 +1,7 @@
 // Bytes and strings as the lines write them.
 ghost use Rattle.std.specs.Prelude.{◌≡◌, ◌<◌, length, IfSome, Some, None, MatchOption};
 ghost use Rattle.payload.specs.Faults.{Finds};
-ghost use Rattle.payload.specs.Spelling.{hex_value, hex_byte, hex_digits, hex_word, hex_words, texts, before, is_plain, spelled, string_of};
+ghost use Rattle.payload.specs.Spelling.{hex_value, hex_byte, hex_digit, hex_digits, hex_word, hex_words, texts, before, is_plain, spelled, string_of};
 
 use crate::line_fault::LineFault;
 use std::alloc::Global;
@@ -91,6 +91,19 @@ pub fn unescaped(heap: Global, word: &str) -> Result<Vec<u8>, LineFault>
     }
 }
 
+// The digit of a value below sixteen.
+fn hex_digit(value: u8) -> char
+    requires { value < 16 }
+    ensures { result ≡ hex_digit value }
+{
+    let digit = if value < 10 {
+        b'0' + value
+    } else {
+        b'A' + (value - 10)
+    };
+    digit as char
+}
+
 // The two digits of a byte, which make it again.
 #[derive(Clone, Copy)]
 struct Digits(u8);
@@ -98,9 +111,11 @@ struct Digits(u8);
 impl fmt::Display for Digits {
     ghost output = { λ digits. Some (hex_digits digits.0) };
 
+    // Kept: digit by digit, since `{byte:02X}` takes half as long again, and most of what the program prints is these.
     fn fmt<W: fmt::Write>(&self, f: &mut fmt::Formatter<W>) -> fmt::Result {
         let Digits(byte) = *self;
-        write!(f, "{byte:02X}")
+        let (high, low) = (hex_digit(byte / 16), hex_digit(byte % 16));
+        write!(f, "{high}{low}")
     }
 }
 

@@ -37,7 +37,7 @@ pub(crate) fn slot_of(pointer: DiskPtr) -> Option<u64>
 fn in_slot(pointer: DiskPtr, i: u64) -> bool
     ensures { result ≡ slot_is i pointer }
 {
-    slot_of(pointer) == Some(i)
+    matches!(pointer, DiskPtr::Blob(_, j) if j >= 0 && j as u64 == i)
 }
 
 // Whether a live or pending message lies in the segment.

@@ -49,6 +49,8 @@ impl Segmented {
     // Makes room for so many bytes and a message of the page, or says that there is none.
     // Kept: that nothing is pending, that there is room and that a slot is one of the log's are premises of three calls each;
     // a token for one would borrow the log while it lives.
+    // Inlined: a refusal is as large as a pointer with its page, and where it is handed on it would be copied each time.
+    #[inline(always)]
     fn make_ready(&mut self, pid: PageId, need: usize) -> Result<(), LogFault>
         requires quiet { any_pending (told self.old.book) ≡ false }
         requires least { 32 ≤ need }
