@@ -1,6 +1,6 @@
 -- From a book's calls to a log's. Assumes nothing.
 use Rattle.std.proofs.Common.{◌≡◌, ℕ, ℤ, ◌+◌, ◌^◌, ◌<◌, ◌≤◌, Bool, true, false, not, eqb, List, [], ◌∷◌, ◌++◌, length, take, drop, is_some, None, Ok, Err, vec_items, Result, sym, refl, ap, ◌∙◌, subst, arith}
-use Rattle.std.proofs.lemmas.List.{take-append-le, drop-append-le, drop_at, take_all, length-drop}
+use Rattle.std.proofs.lemmas.List.{take-append-le, drop-append-le, drop_at, take_all, length-drop, length_push}
 use Rattle.logs.specs.declared.messages.Kind.{Kind}
 use Rattle.fault.specs.declared.disk_pointer.DiskPtr.{DiskPtr}
 use Rattle.fault.specs.declared.disk_pointer.DiskPtr.TheVariants.{Inline, Blob}
@@ -34,6 +34,10 @@ kin-length {b = b} {c = c} k = sym (length-bare (heads_of c)) ∙ ap length k.he
 
 pub kin-inlined : {b c : Book} → Kin b c → inlined (heads_of b) ≡ true → inlined (heads_of c) ≡ true
 kin-inlined {b = b} {c = c} k t = sym (inlined-bare (heads_of c)) ∙ ap inlined k.heads ∙ inlined-bare (heads_of b) ∙ t
+
+-- as many positions are given as there are messages, on a log that lets none leave
+pub kin_counted : {b c : Book} → Kin b c → b.next ≡ length (heads_of b) + 1 → c.next ≡ length (heads_of c) + 1
+kin_counted {b = b} {c = c} k e = let l = kin-length k in omega (arith, k.next, l)
 
 pub settle-kin : (b c : Book) (r : Reservation) (s : Event) (x : Result Unit Returned) → BookSettle b c r s x → Kin b c
 settle-kin b c r s (Ok u) h = h.kin
@@ -105,3 +109,10 @@ module _ (F : Book → ℕ → Bool) (G : Book → Bool) (b c d : Book) (p : ℕ
         after = new_told;
         newer = rw l (messages_below 0 b.next (length (mem_of b)) (mem_of b) (heads_of b) (is-ranked 0 b.next (length (mem_of b)) (heads_of b) b.ranks));
       }
+
+  pub tape_counted : b.next ≡ length (heads_of b) + 1 → d.next ≡ length (heads_of d) + 1
+  tape_counted f =
+      let x = new_head c.next p k o (span at (length bytes)) in
+      let g : heads_of d ≡ heads_of b ++ (x ∷ []) = a.heads ∙ ap (λ v. vec_items v ++ (x ∷ [])) e.heads in
+      let l : length (heads_of d) ≡ length (heads_of b) + 1 = ap length g ∙ length_push (heads_of b) x in
+      omega (arith, a.next, e.next)

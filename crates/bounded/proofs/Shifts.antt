@@ -1,5 +1,5 @@
 -- What moving rows up and down by one leaves of the first ones. Assumes nothing.
-use Rattle.std.proofs.Common.{◌≡◌, ℕ, zero, suc, add-one, ◌+◌, ◌-◌, ◌<◌, ◌≤◌, List, [], ◌∷◌, ◌++◌, length, get_or, take, drop, set, sym, refl, ap, ◌∙◌, arith}
+use Rattle.std.proofs.Common.{◌≡◌, ℕ, zero, suc, add-one, ◌+◌, ◌-◌, ◌<◌, ◌≤◌, List, [], ◌∷◌, ◌++◌, length, get_or, take, drop, set, sym, refl, ap, ◌∙◌, le_of_suc-le-suc, arith}
 use lib.Seq.{paste, take-set-lt}
 use Rattle.std.specs.List.{insert, remove}
 use Rattle.std.proofs.lemmas.List.{take-take, drop-take, length-drop, get_or-take, get_or_default}
@@ -43,3 +43,16 @@ module _ {X : Type 0} where
   -- the element at i, whatever is asked for past the end, is that of the first n
   pub among : (d : List X) (n i : ℕ) (z : X) → i < n → n ≤ length d → get_or d i z ≡ get_or (take n d) i (get_or d i z)
   among d n i z h k = get_or_default d i z (get_or d i z) (omega arith) ∙ sym (get_or-take n d i (get_or d i z) h)
+
+  -- what is put among the first rows, or taken from them, is the same before and after those behind them are left out
+  pub take-insert : (e : List X) (n i : ℕ) (x : X) → i ≤ n → n ≤ length e → take (suc n) (insert e i x) ≡ insert (take n e) i x
+  take-insert e n zero x h k = refl
+  take-insert e zero (suc i) x h k = absurd (omega arith)
+  take-insert [] (suc n) (suc i) x h k = absurd (omega arith)
+  take-insert (y ∷ e) (suc n) (suc i) x h k = ap (λ l. y ∷ l) (take-insert e n i x (le_of_suc-le-suc h) (le_of_suc-le-suc k))
+
+  pub take-remove : (e : List X) (n i : ℕ) → i ≤ n → n < length e → take n (remove e i) ≡ remove (take (suc n) e) i
+  take-remove [] n i h k = absurd (omega arith)
+  take-remove (y ∷ e) n zero h k = refl
+  take-remove (y ∷ e) zero (suc i) h k = absurd (omega arith)
+  take-remove (y ∷ e) (suc n) (suc i) h k = ap (λ l. y ∷ l) (take-remove e n i (le_of_suc-le-suc h) (le_of_suc-le-suc k))

@@ -151,6 +151,18 @@ mark_keeps p es (m ∷ ms) l o x h n = at (λ k. mark_keeps p es ms l o x k n) (
     at tail true e false f k = rw e (dull e f (tail k) (eqb m.page p && named es m))
     at tail false e b f k = rw e (rw e (tail k))
 
+pub same_refl : (M N : Meaning) → N ≡ M → Same M N
+same_refl M N e = record { live_same = λ l o. rw e; quiet = λ q. rw e q }
+
+-- marking leaves none pending where none was
+quiet-mark-one : (b : Bool) (m : Message) → is_pending m.state ≡ false → is_pending (becomes b status.Dead m).state ≡ false
+quiet-mark-one true m h = refl
+quiet-mark-one false m h = h
+
+pub mark-quiet : (p : ℕ) (es : List CacheInfo) (ms : List Message) → any_pending ms ≡ false → any_pending (mark p es ms) ≡ false
+mark-quiet p es [] q = q
+mark-quiet p es (m ∷ ms) q = or_from _ _ (quiet-mark-one _ m (or_parts _ _ q).0) (mark-quiet p es ms (or_parts _ _ q).1)
+
 -- The live messages of a page.
 pub sheds-lives : {ms ks : List Message} → Sheds ms ks → (q : ℕ) → lives_of q ks ≡ lives_of q ms
 sheds-lives none q = refl
