@@ -28,11 +28,11 @@ impl Serialize for u64 {
     ghost only = { number-only };
 
     fn serialize_into(&self, buf: &mut [u8]) -> Result<usize, BytesFault> {
-        write_front(self, buf)
+        write_front::<u64>(self, buf)
     }
 
     fn deserialize(buf: &mut &[u8]) -> Result<u64, BytesFault> {
-        read_front(buf)
+        read_front::<u64>(buf)
     }
 }
 
