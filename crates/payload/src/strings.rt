@@ -111,7 +111,7 @@ struct Digits(u8);
 impl fmt::Display for Digits {
     ghost output = { λ digits. Some (hex_digits digits.0) };
 
-    // Kept: digit by digit, since `{byte:02X}` takes half as long again, and most of what the program prints is these.
+    // Kept: digit by digit, since with `{byte:02X}` a run that prints much takes a third longer.
     fn fmt<W: fmt::Write>(&self, f: &mut fmt::Formatter<W>) -> fmt::Result {
         let Digits(byte) = *self;
         let (high, low) = (hex_digit(byte / 16), hex_digit(byte % 16));
