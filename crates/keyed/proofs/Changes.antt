@@ -61,8 +61,8 @@ module _ {R K : Type 0} (ord : K → K → Ordering) (key : R → K) (laws : Law
   -- ---- an edit of rising rows xs, at the place where a search ended
 
   module _ (xs : List R) (up : rising (between ord key) xs ≡ true) where
-    former : (p : R → Ordering) (i : ℕ) (x : R) → x ≡ get_or xs i x → Searched p xs (Ok i) → Some x ≡ lookup p xs
-    former p i x h s = lookup-found p x h (found p xs i s)
+    pub former : (p : R → Ordering) (i : ℕ) → Searched p xs (Ok i) → (x : R) → x ≡ get_or xs i x → Some x ≡ lookup p xs
+    former p i s x h = lookup-found p x h (found p xs i s)
 
     module _ (r : R) (i n : ℕ) (after : List R) where
       still-rising : after ≡ put (between ord key r) r xs → rising (between ord key) after ≡ true
@@ -72,7 +72,7 @@ module _ {R K : Type 0} (ord : K → K → Ordering) (key : R → K) (laws : Law
       set_found E None s w = absurd (omega (arith, s.0, w.0))
       set_found E (Some x) s w =
           let made = w.2 ∙ sym (put-found (between ord key r) r (found (between ord key r) xs i s)) in
-          (former (between ord key r) i x w.1 s, made, still-rising made)
+          (former (between ord key r) i s x w.1, made, still-rising made)
 
       module _ (s : Searched (between ord key r) xs (Err i)) (E : Type 0) where
         at : Missing (between ord key r) xs i
@@ -94,7 +94,7 @@ module _ {R K : Type 0} (ord : K → K → Ordering) (key : R → K) (laws : Law
       cut_found after None s w = absurd (omega (arith, s.0, w.0))
       cut_found after (Some x) s w =
           let made : after ≡ without (probe ord key q) xs = w.2 ∙ sym (without-found (probe ord key q) (found (probe ord key q) xs i s)) in
-          (former (probe ord key q) i x w.1 s, made, ap (rising (between ord key)) made ∙ without-rising (probe ord key q) xs up)
+          (former (probe ord key q) i s x w.1, made, ap (rising (between ord key)) made ∙ without-rising (probe ord key q) xs up)
 
       pub cut_none : Searched (probe ord key q) xs (Err i) → Removed (between ord key) (probe ord key q) xs xs None
       cut_none s =

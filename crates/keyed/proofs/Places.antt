@@ -1,6 +1,6 @@
 -- Rows in order by their places: what a search that ends at a place says of lookup, put and without, what one comparison says
 -- of the rows before and after, and what std's test of neighbours says. Assumes nothing.
-use Rattle.std.proofs.Common.{◌≡◌, ℕ, zero, suc, ◌+◌, ◌<◌, ◌≤◌, Bool, true, false, cond, List, [], ◌∷◌, length, get_or, set, Some, None, Ok, Err, Ordering, Less, Equal, Greater, sym, refl, ap, ◌∙◌, subst, add-one, ⊎_elim, le_of_suc-le-suc, arith}
+use Rattle.std.proofs.Common.{◌≡◌, ℕ, zero, suc, ◌+◌, ◌<◌, Bool, true, false, cond, List, [], ◌∷◌, length, get_or, set, Some, None, Ok, Err, Ordering, Less, Equal, Greater, sym, refl, ap, ◌∙◌, subst, add-one, ⊎_elim, le_of_suc-le-suc, arith}
 use Rattle.std.specs.List.{insert, remove, IsAllAdjacentAnswer}
 use Rattle.std.specs.Ordering.{is_lt, ordering_reverse}
 use Rattle.std.proofs.lemmas.List.{get_or_read}

@@ -22,7 +22,7 @@ pub fn seek<R: Keyed>(rows: &[R], key: &R::Key) -> Result<usize, usize>
     ensures within { MatchResult result (λ i. i < length rows.now) (λ i. i ≤ length rows.now) }
     ensures found { rising (between R.Key.cmp R.key_of) rows.now ≡ true → Searched (probe R.Key.cmp R.key_of key.now) rows.now result }
 {
-    // Kept: std's own goes on where it has met the key, and takes nearly twice as long for a key that is there.
+    // Kept: std's own goes on where it has met the key, and takes 1.5 to nearly 2 times as long for a key that is there.
     let mut low = 0;
     let mut high = rows.len();
     while low < high {
