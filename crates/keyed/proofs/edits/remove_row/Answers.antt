@@ -1,6 +1,6 @@
--- The row that was found is removed, and where none was found nothing is. That it is the row answered is left to a tactic, so
--- that a body which takes it out before it removes it is proved too.
-use Rattle.std.proofs.Common.{Ok, arith}
+-- The row that was found is removed, and where none was found nothing is. That it is the row answered is left to a search, so
+-- that a body which takes it out before it removes it is proved too: `former` is for that one.
+use Rattle.std.proofs.Common.{Ok, rules}
 use Rattle.bounded.specs.Rows.{rows_of}
 use Rattle.keyed.specs.Order.{lawful}
 use Rattle.keyed.specs.Rows.{probe, Searched}
@@ -13,7 +13,7 @@ returns g c = λ up.
     let sought = probe g.R.Key.Ord.cmp g.R.Keyed.key_of c.args.key.now in
     let at : Searched sought (rows_of c.args.table.now) (Ok c.in-Ok.i) = rw (← c.as_slice.ensures) (c.in-Ok.ensures.found (rw c.as_slice.ensures up)) in
     let cut = cut_found g.R.Key.Ord.cmp g.R.Keyed.key_of laws (rows_of c.args.table.now) up c.args.key.now c.in-Ok.i (rows_of c.remove.new.self) c.remove.result at c.remove.ensures in
-    (grind (arith, cut.0, former g.R.Key.Ord.cmp g.R.Keyed.key_of laws (rows_of c.args.table.now) up sought c.in-Ok.i at), cut.1, cut.2)
+    (search (rules, cut.0, former g.R.Key.Ord.cmp g.R.Keyed.key_of laws (rows_of c.args.table.now) up sought c.in-Ok.i at), cut.1, cut.2)
 
 pub returns-in_default : goal.returns-in_default
 returns-in_default g c = λ up.
